@@ -1,0 +1,5 @@
+pub mod Lists
+pub mod Rounds
+pub mod Places
+pub mod Bounds
+pub mod Few

@@ -1,0 +1,4 @@
+pub mod Bounded
+pub mod Packed
+pub mod Rule
+pub mod Slot
