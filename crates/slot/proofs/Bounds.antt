@@ -14,17 +14,19 @@ use Rattle.streams.specs.Meaning.{Meaning}
 use Rattle.slot.specs.declared.plan.Task.{Task}
 use Rattle.slot.specs.declared.state.Job.{Job}
 use Rattle.slot.specs.declared.state.TaskState.{TaskState}
+use Rattle.slot.specs.Limits.{deadline-limit}
 use Rattle.slot.specs.Bounded.{Job-bounded, Bounded, job-bounded, bounded}
-use Rattle.slot.specs.Rule.{TaskView, task-view, task-views}
-use Rattle.slot.specs.Slot.{serve, serve-job, works, serve-all, firsts}
+use Rattle.slot.specs.Tasks.{TaskView, task-view, task-views}
+use Rattle.slot.specs.Slot.{firsts}
+use Rattle.slot.specs.Work.{serve, serve-job, works, serve-all}
 
 test-job-bounded : (o : Option Job) → job-bounded o ≡ true → Job-bounded o
 test-job-bounded None h = tt
-test-job-bounded (Some j) h = let p = and-parts (leb (j .work) 1023) (leb (j .age) 1023) h in (leb-true (j .work) 1023 (p .0), leb-true (j .age) 1023 (p .1))
+test-job-bounded (Some j) h = let p = and-parts (leb (j .work) deadline-limit) (leb (j .age) deadline-limit) h in (leb-true (j .work) deadline-limit (p .0), leb-true (j .age) deadline-limit (p .1))
 
 job-bounded-test : (o : Option Job) → Job-bounded o → job-bounded o ≡ true
 job-bounded-test None h = refl
-job-bounded-test (Some j) h = and-from (leb (j .work) 1023) (leb (j .age) 1023) (le-leb (j .work) 1023 (h .0)) (le-leb (j .age) 1023 (h .1))
+job-bounded-test (Some j) h = and-from (leb (j .work) deadline-limit) (leb (j .age) deadline-limit) (le-leb (j .work) deadline-limit (h .0)) (le-leb (j .age) deadline-limit (h .1))
 
 pub test-bounded : (ss : List TaskState) → bounded ss ≡ true → Bounded ss
 test-bounded [] h = tt
@@ -37,14 +39,14 @@ bounded-test (s ∷ ss) h = and-from (job-bounded (s .job)) (bounded ss) (job-bo
 -- what the numbers of every task keep
 abbrev pub Sane : List TaskView → Type 0
 Sane [] = Unit {0}
-Sane (d ∷ ds) = (d .worst ≤ d .deadline) × (d .deadline ≤ 1023) × Sane ds
+Sane (d ∷ ds) = (d .worst ≤ d .deadline) × (d .deadline ≤ deadline-limit) × Sane ds
 
 pub sane : {S : Type 0} (meaning : S → Meaning) (ts : List (Option (Task S))) → Sane (task-views meaning ts)
 sane meaning [] = tt
 sane meaning (None ∷ ts) = tt
 sane meaning (Some t ∷ ts) = (t .times .fit, t .times .soon, sane meaning ts)
 
-serve-bounded : (picked stay : Bool) (d : TaskView) (p : ℕ) (o : Option Job) → d .worst ≤ d .deadline → d .deadline ≤ 1023 → Job-bounded o →
+serve-bounded : (picked stay : Bool) (d : TaskView) (p : ℕ) (o : Option Job) → d .worst ≤ d .deadline → d .deadline ≤ deadline-limit → Job-bounded o →
   serve-job picked stay d p o .late ≡ false → Job-bounded (serve-job picked stay d p o .state .job)
 serve-bounded picked stay d p None hm hd b h = tt
 serve-bounded false stay d p (Some j) hm hd b h = (b .0, omega (arith, leb-false (d .deadline) (j .age + 1) h))

@@ -1,6 +1,6 @@
 -- The places of a plan and of a state, one by one. Assumes nothing.
 use mathlib.Core.Path.{_≡_, refl, sym, ap, _∙_}
-use mathlib.Core.List.{List, [], _∷_, _++_, append-assoc}
+use mathlib.Core.List.{List, [], _∷_, _++_, append-assoc, map}
 use mathlib.Core.Bool.{Bool, true, false, cond}
 use mathlib.Core.Logic.{_⊎_, inl, inr}
 use native.Mathlib.Numerals.{add-one}
@@ -11,7 +11,7 @@ use Rattle.std.proofs.shelf.Tests.{cases-bool}
 use Prim.Native.Nat.{ℕ, zero, suc, _+_, _-_, _*_, _^_, _≤_, _<_}
 use native.Mathlib.Omega.{arith}
 use native.Mathlib.Nat.{mul-assoc, mul-le-mul, mul-one}
-use lib.ListN.{length, getD, take, drop, set, take-append-drop}
+use lib.ListN.{length, getD, take, drop, set, take-append-drop, replicate}
 use lib.Pow.{pow-add}
 use Rattle.std.specs.declared.option.Option.{Option}
 use Rattle.std.specs.declared.option.Option.the-variants.{Some, None}
@@ -19,7 +19,9 @@ use Rattle.std.proofs.shelf.Lists.{drop-more, drop-all, drop-set-lt}
 use Rattle.streams.specs.Meaning.{Meaning}
 use Rattle.slot.specs.declared.plan.Task.{Task}
 use Rattle.slot.specs.declared.state.TaskState.{TaskState}
-use Rattle.slot.specs.Rule.{TaskView, task-view, task-views, choices, Arrival, come, arrived, overlapping}
+use Rattle.slot.specs.declared.arrive.Arrival.{Arrival}
+use Rattle.slot.specs.Arrivals.{choices, come, arrived, overlapping, arrivals-in, overlaps}
+use Rattle.slot.specs.Tasks.{TaskView, task-view, task-views}
 
 module _ {S : Type 0} (meaning : S → Meaning) where
   -- at a task, the duties from i on begin with it
@@ -74,7 +76,7 @@ module _ (ds es : List TaskView) (ss : List TaskState) (i a : ℕ) (d : TaskView
       let more : arrived ds (drop i ss) a ≡ v ∷ rest = rw (begins, drop-more ss i s within, ev, el) refl in
       rw (front, back, more) (append-assoc (take i ss) (v ∷ []) rest)
 
-  pub overlap-more : (n o o′ left : ℕ) (v : TaskState) (b : Bool) → 1 ≤ n → b ≡ one .overlaps → left ≡ one .left → o′ ≡ cond (eqb o 0) (cond b n 0) o →
+  pub overlap-more : (n o o′ left : ℕ) (v : TaskState) (b : Bool) → 1 ≤ n → b ≡ overlaps (one .release) → left ≡ one .left → o′ ≡ cond (eqb o 0) (cond b n 0) o →
     cond (eqb o′ 0) (overlapping (n + 1) es (drop (i + 1) (set ss i v)) left) o′ ≡ cond (eqb o 0) (overlapping n ds (drop i ss) a) o
   overlap-more n o o′ left v b hn eb el eo =
       let back : drop (i + 1) (set ss i v) ≡ drop (i + 1) ss = drop-set-lt (i + 1) ss i v (omega arith) in
@@ -99,3 +101,38 @@ done-overlap ds ss n a i o out e h =
     elim (cases-bool (eqb o 0)) [
       inl y ↦ eqb-true o 0 y ∙ (rw y at h′)
     | inr y ↦ rw y at h′ ]
+
+-- one task's flag more
+pub flag-more : (ds es : List TaskView) (ss : List TaskState) (bs : List Bool) (i a left : ℕ) (d : TaskView) (s v : TaskState) (b : Bool) → ds ≡ d ∷ es → i < length ss → i < length bs →
+  b ≡ come d (getD ss i s) a .arrives → left ≡ come d (getD ss i s) a .left →
+  take (i + 1) (set bs i b) ++ arrivals-in es (drop (i + 1) (set ss i v)) left ≡ take i bs ++ arrivals-in ds (drop i ss) a
+flag-more ds es ss bs i a left d s v b begins within room eb el =
+    let front : take (i + 1) (set bs i b) ≡ take i bs ++ (b ∷ []) = rw add-one (take-suc-set bs i b room) in
+    let back : drop (i + 1) (set ss i v) ≡ drop (i + 1) ss = drop-set-lt (i + 1) ss i v (omega arith) in
+    let more : arrivals-in ds (drop i ss) a ≡ b ∷ arrivals-in es (drop (i + 1) ss) left = rw (begins, drop-more ss i s within, eb, el) refl in
+    rw (front, back, more) (append-assoc (take i bs) (b ∷ []) (arrivals-in es (drop (i + 1) ss) left))
+
+-- the flags of places without a task stay as they were
+pub done-flags : (ds : List TaskView) (ss : List TaskState) (bs out : List Bool) (i a : ℕ) → ds ≡ [] → drop i bs ≡ map (λ _. false) (drop i ss) →
+  take i bs ++ arrivals-in ds (drop i ss) a ≡ out → bs ≡ out
+done-flags ds ss bs out i a e q h =
+    let h′ : take i bs ++ map (λ _. false) (drop i ss) ≡ out = rw e at h in
+    sym (take-append-drop i bs) ∙ ap (λ x. take i bs ++ x) q ∙ h′
+
+pub no-flags : (n : ℕ) (ss : List TaskState) → length ss ≡ n → replicate n false ≡ map (λ _. false) ss
+no-flags zero [] h = refl
+no-flags zero (s ∷ ss) h = elim (let no : ⊥ = omega arith in no) [ ]
+no-flags (suc n) [] h = elim (let no : ⊥ = omega arith in no) [ ]
+no-flags (suc n) (s ∷ ss) h = ap (λ x. false ∷ x) (no-flags n ss (omega arith))
+
+-- and are still all off past a place that was filled
+pub flags-rest : (ss : List TaskState) (bs : List Bool) (i : ℕ) (v : TaskState) (b : Bool) → length ss ≡ length bs → i < length ss →
+  drop i bs ≡ map (λ _. false) (drop i ss) → drop (i + 1) (set bs i b) ≡ map (λ _. false) (drop (i + 1) (set ss i v))
+flags-rest ss bs i v b l h e =
+    let p : drop (i + 1) (set bs i b) ≡ drop (i + 1) bs = drop-set-lt (i + 1) bs i b (omega arith) in
+    let q : drop (i + 1) (set ss i v) ≡ drop (i + 1) ss = drop-set-lt (i + 1) ss i v (omega arith) in
+    let f = drop-more bs i false (omega arith) in
+    let g = drop-more ss i v h in
+    let e′ : getD bs i false ∷ drop (i + 1) bs ≡ false ∷ map (λ _. false) (drop (i + 1) ss) = sym f ∙ e ∙ ap (map (λ _. false)) g in
+    let e″ : drop (i + 1) bs ≡ map (λ _. false) (drop (i + 1) ss) = cc in
+    p ∙ e″ ∙ ap (map (λ _. false)) (sym q)

@@ -15,7 +15,7 @@ use Rattle.streams.specs.Meaning.{Meaning}
 use Rattle.slot.specs.declared.plan.Task.{Task}
 use Rattle.slot.specs.declared.state.TaskState.{TaskState}
 use Rattle.slot.specs.Packed.{packed, all-free}
-use Rattle.slot.specs.Rule.{TaskView, task-view, task-views}
+use Rattle.slot.specs.Tasks.{TaskView, task-view, task-views}
 use Rattle.slot.specs.Slot.{firsts}
 
 module _ {S : Type 0} (meaning : S → Meaning) where

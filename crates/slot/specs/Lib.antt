@@ -1,4 +1,7 @@
+pub mod Limits
 pub mod Bounded
 pub mod Packed
-pub mod Rule
+pub mod Tasks
+pub mod Arrivals
+pub mod Work
 pub mod Slot

@@ -1,18 +1,13 @@
-// Plans and start states.
+// Making plans.
 ghost use mathlib.Core.Path.{_≡_};
 ghost use mathlib.Core.Bool.{cond, true};
 ghost use mathlib.Core.List.{List, [], _∷_, _++_};
 ghost use Prim.Native.Nat.{_≤_, _<_};
 ghost use lib.Dec.{ltb};
 ghost use lib.ListN.{length};
-ghost use Rattle.std.specs.Orderings.{Decides};
-ghost use Rattle.slot.specs.Rule.{task-view, task-views};
-ghost use Rattle.slot.specs.Slot.{state-view, start-state};
+ghost use Rattle.slot.specs.Tasks.{task-view, task-views};
 use crate::plan::Plan;
 use crate::plan::Task;
-use crate::plan::Times;
-use crate::state::TaskState;
-use crate::state::State;
 use streams::Stream;
 
 // A plan with no task.
@@ -46,47 +41,5 @@ pub fn add<S: Stream + Drop>(plan: &mut Plan<S>, task: Task<S>) -> bool
         true
     } else {
         false
-    }
-}
-
-// The streams at their first positions, no jobs, and no last runner.
-pub fn start<S: Stream>(plan: &Plan<S>) -> State
-    ensures { λ r. ⌜ state-view r ≡ start-state (task-views (S·Stream .meaning) (now (plan .entry) .tasks)) ⌝ }
-{
-    let mut tasks = [TaskState { position: 0, job: None }; 8];
-    for i in 0..8 {
-        let Some(task) = &plan.tasks[i] else {
-            break;
-        };
-        tasks[i] = TaskState { position: task.stream.first(), job: None };
-    }
-    State { tasks, last: 0 }
-}
-
-// Whether two states are one.
-pub fn same(a: &State, b: &State) -> bool
-    ensures { λ r. ⌜ Decides r (state-view (now (a .entry)) ≡ state-view (now (b .entry))) ⌝ }
-{
-    if a.last != b.last {
-        return false;
-    }
-    for i in 0..8 {
-        if !alike(a.tasks[i], b.tasks[i]) {
-            return false;
-        }
-    }
-    true
-}
-
-fn alike(a: TaskState, b: TaskState) -> bool
-    ensures { λ r. ⌜ Decides r (a ≡ b) ⌝ }
-{
-    if a.position != b.position {
-        return false;
-    }
-    match (a.job, b.job) {
-        (Some(j), Some(k)) => j.work == k.work && j.age == k.age,
-        (None, None) => true,
-        _ => false,
     }
 }

@@ -1,23 +1,23 @@
 // The work, the ages and the deadlines of a slot.
 ghost use mathlib.Core.Path.{_≡_};
-ghost use mathlib.Core.Bool.{cond, true};
-ghost use Prim.Native.Nat.{_<_, _≤_};
-ghost use lib.Dec.{eqb};
-ghost use lib.ListN.{length, take};
-ghost use Rattle.slot.specs.Rule.{task-view, task-views};
+ghost use mathlib.Core.Bool.{true};
+ghost use lib.ListN.{length};
 ghost use Rattle.std.specs.declared.option.Option.the-variants.{None};
-ghost use Rattle.slot.specs.Slot.{serve as served, serve-all as passed, ended-by, either, sees, age-of};
+ghost use Rattle.slot.specs.Tasks.{task-view, task-views};
+ghost use Rattle.slot.specs.Work.{serve as served, serve-all, ended-by, either, sees, age-of};
 ghost use Rattle.slot.specs.Bounded.{Job-bounded, Bounded, bounded};
-use outcome::Ended;
+use crate::arrive::first_of;
 use crate::plan::Plan;
 use crate::plan::Task;
 use crate::state::Job;
 use crate::state::TaskState;
 use dispatch::Dispatch;
 use dispatch::Seen;
+use outcome::Ended;
 use streams::Stream;
 
-// What a slot does with one task's job.
+// What a slot does with one task's job: how the task stands after it, the response of a job that ended, whether the job
+// may choose to end or to stay, and whether it is late.
 #[derive(Clone, Copy)]
 pub struct Served {
     pub state: TaskState,
@@ -26,16 +26,23 @@ pub struct Served {
     pub late: bool,
 }
 
-pub fn serve<S: Stream>(task: &Task<S>, state: TaskState, picked: bool, stay: bool) -> Served
+// All tasks of a slot: how they stand after it, the job that ended, whether the picked job may choose, and the first late
+// task, 0 for none.
+#[derive(Clone, Copy)]
+pub struct Round {
+    pub tasks: [TaskState; 8],
+    pub ended: Option<Ended>,
+    pub may_choose: bool,
+    pub late: u8,
+}
+
+fn serve<S: Stream>(task: &Task<S>, state: TaskState, picked: bool, stay: bool) -> Served
     requires { ⌜ Job-bounded (state .job) ⌝ }
-    ensures state { λ r. ⌜ r .state ≡ served picked stay (task-view (S·Stream .meaning) (now (task .entry))) state .state ⌝ }
-    ensures response { λ r. ⌜ r .response ≡ served picked stay (task-view (S·Stream .meaning) (now (task .entry))) state .response ⌝ }
-    ensures choose { λ r. ⌜ r .«may_choose» ≡ served picked stay (task-view (S·Stream .meaning) (now (task .entry))) state .may-choose ⌝ }
-    ensures late { λ r. ⌜ r .late ≡ served picked stay (task-view (S·Stream .meaning) (now (task .entry))) state .late ⌝ }
+    ensures { λ r. ⌜ r ≡ served picked stay (task-view (S·Stream .meaning) (now (task .entry))) state ⌝ }
 {
     let position = state.position;
     let Some(Job { work, age }) = state.job else {
-        return Served { state, response: None, may_choose: false, late: false };
+        return Served { state: TaskState { position, job: None }, response: None, may_choose: false, late: false };
     };
     let work = if picked { work + 1 } else { work };
     let age = age + 1;
@@ -77,15 +84,6 @@ fn age(job: Option<Job>) -> Option<u16>
     }
 }
 
-// All tasks of a slot: how they stand after it, the job that ended, whether the picked job may choose, and who is late.
-#[derive(Clone, Copy)]
-pub struct Round {
-    pub tasks: [TaskState; 8],
-    pub ended: Option<Ended>,
-    pub may_choose: bool,
-    pub late: u8,
-}
-
 fn ended_first(earlier: Option<Ended>, task: u8, response: Option<u16>) -> Option<Ended>
     ensures { λ r. ⌜ r ≡ either earlier (ended-by task response None) ⌝ }
 {
@@ -98,24 +96,10 @@ fn ended_first(earlier: Option<Ended>, task: u8, response: Option<u16>) -> Optio
     }
 }
 
-fn late_first(earlier: u8, here: bool, number: u8) -> u8
-    ensures { λ r. ⌜ r ≡ cond (eqb earlier 0) (cond here number 0) earlier ⌝ }
-{
-    if earlier != 0 {
-        earlier
-    } else if here {
-        number
-    } else {
-        0
-    }
-}
-
+// The picked task works, every job ages, and deadlines are checked.
 pub fn serve_all<S: Stream>(plan: &Plan<S>, before: &[TaskState; 8], pick: u8, stay: bool) -> Round
     requires { ⌜ Bounded (now before) ⌝ }
-    ensures tasks { λ r. ⌜ r .tasks ≡ passed pick stay 1 (task-views (S·Stream .meaning) (now (plan .entry) .tasks)) (now (before .entry)) .tasks ⌝ }
-    ensures ended { λ r. ⌜ r .ended ≡ passed pick stay 1 (task-views (S·Stream .meaning) (now (plan .entry) .tasks)) (now (before .entry)) .ended ⌝ }
-    ensures choose { λ r. ⌜ r .«may_choose» ≡ passed pick stay 1 (task-views (S·Stream .meaning) (now (plan .entry) .tasks)) (now (before .entry)) .may-choose ⌝ }
-    ensures late { λ r. ⌜ r .late ≡ passed pick stay 1 (task-views (S·Stream .meaning) (now (plan .entry) .tasks)) (now (before .entry)) .late ⌝ }
+    ensures value { λ r. ⌜ r ≡ serve-all pick stay 1 (task-views (S·Stream .meaning) (now (plan .entry) .tasks)) (now (before .entry)) ⌝ }
     ensures length { λ r. ⌜ length (r .tasks) ≡ 8 ⌝ }
     ensures bounded { λ r. ⌜ (r .late ≡ 0 → bounded (r .tasks) ≡ true) ⌝ }
 {
@@ -132,7 +116,7 @@ pub fn serve_all<S: Stream>(plan: &Plan<S>, before: &[TaskState; 8], pick: u8, s
         tasks[i] = s.state;
         ended = ended_first(ended, number, s.response);
         may_choose = may_choose | s.may_choose;
-        late = late_first(late, s.late, number);
+        late = first_of(late, s.late, number);
     }
     Round { tasks, ended, may_choose, late }
 }

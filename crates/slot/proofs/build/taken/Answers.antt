@@ -3,7 +3,7 @@ use Prim.Native.Nat.{_+_}
 use native.Mathlib.Omega.{arith}
 use lib.ListN.{length, drop}
 use Rattle.std.proofs.shelf.Lists.{drop-all}
-use Rattle.slot.specs.Rule.{task-view, task-views}
+use Rattle.slot.specs.Tasks.{task-view, task-views}
 use Rattle.slot.proofs.Lists.{task-views-more, task-views-end}
 use Rattle.slot.proofs.build.taken.Needs as need
 

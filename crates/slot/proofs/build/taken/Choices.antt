@@ -1,7 +1,7 @@
 use mathlib.Core.Path.{_≡_}
 use Prim.Native.Nat.{_+_}
 use lib.ListN.{length, drop}
-use Rattle.slot.specs.Rule.{task-views}
+use Rattle.slot.specs.Tasks.{task-views}
 use Rattle.slot.proofs.build.taken.Given as given
 
 abbrev pub Inv-loop-i : given.InvT-loop-i

@@ -7,8 +7,8 @@ use lib.ListN.{length, length-set, length-take, take, drop}
 use Rattle.std.specs.declared.option.Option.the-variants.{None}
 use Rattle.std.proofs.shelf.Lists.{drop-all}
 use Rattle.slot.specs.declared.state.TaskState.{TaskState}
-use Rattle.slot.specs.Rule.{task-view, task-views}
-use Rattle.slot.specs.Slot.{sees}
+use Rattle.slot.specs.Tasks.{task-view, task-views}
+use Rattle.slot.specs.Work.{sees}
 use Rattle.slot.proofs.Lists.{task-views-more, task-views-end}
 use Rattle.slot.proofs.Few.{picks-few}
 use Rattle.slot.proofs.Rounds.{sees-more, sees-done}

@@ -1,8 +1,8 @@
 use mathlib.Core.Path.{_≡_}
 use mathlib.Core.List.{_++_}
 use lib.ListN.{length, take, drop}
-use Rattle.slot.specs.Rule.{task-views}
-use Rattle.slot.specs.Slot.{sees}
+use Rattle.slot.specs.Tasks.{task-views}
+use Rattle.slot.specs.Work.{sees}
 use Rattle.slot.proofs.work.pick_of.Given as given
 
 abbrev pub Inv-loop-i : given.InvT-loop-i

@@ -4,8 +4,9 @@ use mathlib.Core.List.{_++_}
 use Prim.Native.Nat.{_+_}
 use lib.Dec.{eqb}
 use lib.ListN.{length, take, drop}
-use Rattle.slot.specs.Rule.{task-views}
-use Rattle.slot.specs.Slot.{Round, serve-all, either}
+use Rattle.slot.specs.Tasks.{task-views}
+use Rattle.slot.specs.declared.work.Round.{Round}
+use Rattle.slot.specs.Work.{serve-all, either}
 use Rattle.slot.specs.Bounded.{Bounded}
 use Rattle.slot.proofs.Rounds.{Onward}
 use Rattle.slot.proofs.work.serve_all.Given as given

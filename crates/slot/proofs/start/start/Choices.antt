@@ -1,9 +1,9 @@
 use mathlib.Core.Path.{_≡_}
 use mathlib.Core.List.{_++_}
 use lib.ListN.{length, take, drop}
-use Rattle.slot.specs.Rule.{task-views}
+use Rattle.slot.specs.Tasks.{task-views}
 use Rattle.slot.specs.Slot.{firsts, start-state}
-use Rattle.slot.proofs.build.start.Given as given
+use Rattle.slot.proofs.start.start.Given as given
 
 abbrev pub Inv-loop-i : given.InvT-loop-i
 Inv-loop-i g l =

@@ -6,13 +6,13 @@ use lib.ListN.{length, length-set, drop, replicate}
 use Rattle.std.specs.declared.option.Option.the-variants.{None}
 use Rattle.std.proofs.shelf.Lists.{drop-all}
 use Rattle.slot.specs.declared.state.TaskState.{TaskState}
-use Rattle.slot.specs.Rule.{task-view, task-views}
+use Rattle.slot.specs.Tasks.{task-view, task-views}
 use Rattle.slot.specs.Slot.{start-state}
 use Rattle.slot.proofs.Lists.{task-views-more, task-views-end}
 use Rattle.slot.proofs.Places.{firsts-more, firsts-done}
 use Rattle.slot.proofs.Bounds.{bounded-firsts}
-use Rattle.slot.proofs.build.start.Needs as need
-use Rattle.slot.proofs.build.start.Needs.{else-loop-i-test, then-loop-i-test·in-rest}
+use Rattle.slot.proofs.start.start.Needs as need
+use Rattle.slot.proofs.start.start.Needs.{else-loop-i-test, then-loop-i-test·in-rest}
 
 abbrev nothing : TaskState
 nothing = record { position = 0; job = None }

@@ -7,7 +7,7 @@ use Rattle.std.specs.declared.option.Option.the-variants.{None}
 use Rattle.std.proofs.shelf.Lists.{take-more}
 use Rattle.slot.specs.declared.state.TaskState.{TaskState}
 use Rattle.slot.specs.Slot.{StateView}
-use Rattle.slot.proofs.build.same.Needs as need
+use Rattle.slot.proofs.start.same.Needs as need
 
 abbrev nothing : TaskState
 nothing = record { position = 0; job = None }

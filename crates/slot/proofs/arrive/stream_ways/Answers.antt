@@ -8,9 +8,10 @@ use mir.Facts.{fits-below}
 use Rattle.std.specs.declared.option.Option.the-variants.{None}
 use Rattle.std.proofs.shelf.Lists.{drop-all}
 use Rattle.slot.specs.declared.state.TaskState.{TaskState}
-use Rattle.slot.specs.Rule.{task-view, task-views, choices}
+use Rattle.slot.specs.Arrivals.{choices}
+use Rattle.slot.specs.Tasks.{task-view, task-views}
 use Rattle.slot.proofs.Lists.{task-views-more, task-views-end, choices-more, four-pow, four-all}
-use Rattle.slot.proofs.walk.choices_of.Needs as need
+use Rattle.slot.proofs.arrive.stream_ways.Needs as need
 
 pub mul-all : need.mul-all
 mul-all g c =
