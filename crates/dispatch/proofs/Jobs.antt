@@ -44,51 +44,83 @@ best-ends key (t ∷ ts) n b h =
     let test : Bool = isSome (t .age) && (eqb (b .task) 0 || ltb (b .rank) (key t)) in
     record {
       which = elim (ih .which) [
-          inl e ↦ elim (cases-bool test) [
-              inl y ↦
-                let z : r ≡ n = e ∙ rw y refl in
-                let s : isSome (t .age) ≡ true = grind (arith, tells) in
-                inr (0, omega arith, s)
-            | inr f ↦ inl (e ∙ rw f refl) ]
-        | inr x ↦ inr (suc (x .0), omega (arith, x .1), x .2) ];
+        | inl e ↦ elim (cases-bool test) [
+          | inl y ↦
+              let z : r ≡ n = e ∙ rw y refl in
+              let s : isSome (t .age) ≡ true = grind (arith, tells) in
+              inr (0, omega arith, s)
+          | inr f ↦ inl (e ∙ rw f refl)
+        ]
+        | inr x ↦ inr (suc (x .0), omega (arith, x .1), x .2)
+      ];
       none = λ z. elim [
-          zero ↦ elim (cases-bool (isSome (t .age))) [
-              inl y ↦
-                let k : next .task ≡ 0 = ih .kept z in
-                elim (cases-bool test) [
-                  inl u ↦ let n0 : n ≡ 0 = sym (rw u refl) ∙ k in elim (let no : ⊥ = omega arith in no) [ ]
+        | zero ↦ elim (cases-bool (isSome (t .age))) [
+          | inl y ↦
+              let k : next .task ≡ 0 = ih .kept z in
+              elim (cases-bool test) [
+                | inl u ↦ let n0 : n ≡ 0 = sym (rw u refl) ∙ k in elim (let no : ⊥ = omega arith in no) [ ]
                 | inr u ↦
-                  let b0 : b .task ≡ 0 = sym (rw u refl) ∙ k in
-                  let v : test ≡ true = rw (y, b0) refl in
-                  let q : _≡_ {A = ℕ} 0 1 = cc in elim (let no : ⊥ = omega arith in no) [ ] ]
-            | inr y ↦ y ]
-        | suc i ↦ ih .none z i ];
+                    let b0 : b .task ≡ 0 = sym (rw u refl) ∙ k in
+                    let v : test ≡ true = rw (y, b0) refl in
+                    let q : _≡_ {A = ℕ} 0 1 = cc in elim (let no : ⊥ = omega arith in no) [ ]
+              ]
+          | inr y ↦ y
+        ]
+        | suc i ↦ ih .none z i
+      ];
       kept = λ z.
-        let k : next .task ≡ 0 = ih .kept z in
-        elim (cases-bool test) [
-          inl u ↦ let n0 : n ≡ 0 = sym (rw u refl) ∙ k in elim (let no : ⊥ = omega arith in no) [ ]
-        | inr u ↦ sym (rw u refl) ∙ k ];
+          let k : next .task ≡ 0 = ih .kept z in
+          elim (cases-bool test) [
+            | inl u ↦ let n0 : n ≡ 0 = sym (rw u refl) ∙ k in elim (let no : ⊥ = omega arith in no) [ ]
+            | inr u ↦ sym (rw u refl) ∙ k
+          ];
     }
 
 pub greatest-conserves : (key : Seen → ℕ) → WorkConserving (greatest key)
 greatest-conserves key = record {
   idle = λ ts last none.
-    let e = best-ends key ts 1 (record { task = 0; rank = 0 }) (omega arith) in
-    elim (e .which) [
-      inl z ↦ z
-    | inr x ↦
-      let y = none (suc (x .0)) in
-      let w = x .2 in
-      let q : _≡_ {A = ℕ} 0 1 = cc in elim (let no : ⊥ = omega arith in no) [ ] ];
+      let e = best-ends key ts 1 (record { task = 0; rank = 0 }) (omega arith) in
+      elim (e .which) [
+        | inl z ↦ z
+        | inr x ↦
+            let y = none (suc (x .0)) in
+            let w = x .2 in
+            let q : _≡_ {A = ℕ} 0 1 = cc in elim (let no : ⊥ = omega arith in no) [ ]
+      ];
+  idle-only = λ ts last z.
+      let e = best-ends key ts 1 (record { task = 0; rank = 0 }) (omega arith) in
+      by-number ts (e .none z);
   busy = λ ts last n some.
-    let r : ℕ = greatest key ts last in
-    let e = best-ends key ts 1 (record { task = 0; rank = 0 }) (omega arith) in
-    elim (e .which) [
-      inl z ↦ elim (nobody ts n some (e .none z)) [ ]
-    | inr x ↦
-      let z : r ≡ suc (x .0) = omega (arith, x .1) in
-      ap (has-job ts) z ∙ x .2 ];
+      let r : ℕ = greatest key ts last in
+      let e = best-ends key ts 1 (record { task = 0; rank = 0 }) (omega arith) in
+      elim (e .which) [
+        | inl z ↦ elim (nobody ts n some (e .none z)) [ ]
+        | inr x ↦
+            let z : r ≡ suc (x .0) = omega (arith, x .1) in
+            ap (has-job ts) z ∙ x .2
+      ];
 } where
+  by-number : (ts : List Seen) → ((i : ℕ) → job-at ts i ≡ false) → (n : ℕ) → has-job ts n ≡ false
+  by-number ts f zero = refl
+  by-number ts f (suc i) = f i
+
   nobody : (ts : List Seen) (n : ℕ) → has-job ts n ≡ true → ((i : ℕ) → job-at ts i ≡ false) → ⊥
   nobody ts zero h f = let q : _≡_ {A = ℕ} 0 1 = cc in omega arith
   nobody ts (suc i) h f = let g = f i in let q : _≡_ {A = ℕ} 0 1 = cc in omega arith
+
+pub keeping-conserves : (below : Picks) → WorkConserving below → WorkConserving (keeping below)
+keeping-conserves below law = record {
+  idle = λ ts last none. let e = none last in rw e (law .idle ts last none);
+  idle-only = λ ts last.
+      elim (cases-bool (has-job ts last)) [
+        | inl e ↦ rw e (λ z.
+            let h : has-job ts 0 ≡ true = sym (ap (has-job ts) z) ∙ e in
+            let q : _≡_ {A = ℕ} 0 1 = cc in elim (let no : ⊥ = omega arith in no) [ ])
+        | inr e ↦ rw e (law .idle-only ts last)
+      ];
+  busy = λ ts last n some.
+      elim (cases-bool (has-job ts last)) [
+        | inl e ↦ rw e e
+        | inr e ↦ rw e (law .busy ts last n some)
+      ];
+}

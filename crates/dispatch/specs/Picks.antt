@@ -4,9 +4,7 @@ use mathlib.Core.Bool.{Bool, true, false, cond, _&&_, _||_}
 use mathlib.Core.List.{List, [], _∷_}
 use Prim.Native.Nat.{ℕ, zero, suc, _+_}
 use lib.Dec.{ltb, eqb}
-use Rattle.std.specs.Options.{isSome}
-use Rattle.std.specs.declared.option.Option.{Option}
-use Rattle.std.specs.declared.option.Option.the-variants.{Some, None}
+use Rattle.std.specs.Options.{isSome, valueOr}
 use Rattle.dispatch.specs.declared.Seen.{Seen}
 
 -- A rule's meaning: the task that it picks, from 1, for the tasks that it sees and the last runner.
@@ -26,6 +24,7 @@ has-job ts (suc i) = job-at ts i
 -- It picks 0 exactly when no task has a job, else a task that has one.
 pub record WorkConserving (picks : Picks) : Type 0 where
   pub idle : (ts : List Seen) (last : ℕ) → ((n : ℕ) → has-job ts n ≡ false) → picks ts last ≡ 0
+  pub idle-only : (ts : List Seen) (last : ℕ) → picks ts last ≡ 0 → (n : ℕ) → has-job ts n ≡ false
   pub busy : (ts : List Seen) (last n : ℕ) → has-job ts n ≡ true → has-job ts (picks ts last) ≡ true
 
 -- The best task so far, 0 for none, with its key.
@@ -49,12 +48,8 @@ abbrev pub by-priority : Picks
 by-priority = greatest (λ t. t .priority)
 
 -- The age of a task's job.
-abbrev pub age-or : Option ℕ → ℕ
-age-or None = 0
-age-or (Some a) = a
-
 abbrev pub waited : Seen → ℕ
-waited t = age-or (t .age)
+waited t = valueOr (t .age) 0
 
 abbrev pub by-age : Picks
 by-age = greatest waited

@@ -21,10 +21,15 @@ use Rattle.outcome.specs.declared.Cause.the-variants.{Overlap, Deadline}
 use Rattle.outcome.specs.declared.Ended.{Ended}
 use Rattle.slot.specs.declared.state.Job.{Job}
 use Rattle.slot.specs.declared.state.TaskState.{TaskState}
-use Rattle.slot.specs.Rule.{TaskView, choices, arrived, overlapping}
-use Rattle.slot.specs.Slot.{StateView, OutcomeView, void, late, next, slot, sees, serve-all, runner-after, serve, serve-job, start-state}
-use Rattle.runs.specs.Run.{Event, arrives, event, Ending, ends-in, ends-late, RunFrom, empty, last-late, way-then, Run, Proper, Task}
-use Rattle.runs.specs.Arrivals.{arrivals-of, Arrivals-sound, Late, Chosen, Shows, Arrivals-complete}
+use Rattle.slot.specs.Arrivals.{choices, arrived, overlapping}
+use Rattle.slot.specs.Tasks.{TaskView}
+use Rattle.slot.specs.Slot.{StateView, OutcomeView, void, late, next, slot, runner-after, start-state}
+use Rattle.slot.specs.Work.{sees, serve-all, serve, serve-job}
+use Rattle.runs.specs.Arrivals.{arrivals-of, Arrivals-law}
+use Rattle.runs.specs.Run.{arrives, Ending, ends-in, ends-late, RunFrom, empty, last-late, way-then, Run, Proper, Is-task}
+use Rattle.runs.specs.Work.{Late, Chosen}
+use Rattle.slot.specs.Slot.{event}
+use Rattle.slot.specs.declared.event.Event.{Event}
 use Rattle.runs.proofs.Invert.{mix, come-to, chosen, stays, over, round, Onward, next-went, event-arrivals, not-void, not-void-stay}
 use Rattle.runs.proofs.Mixed.{mixed, Fits, mixed-lt, Mixed-at, mixed-at}
 use Rattle.runs.proofs.Tasks.{arrived-at, serve-all-at, firsts-at, choose-all}
@@ -40,7 +45,7 @@ position-kept true stay d p (Some j) =
         inl z ↦ elim (cases-bool stay) [ inl u ↦ rw (y, z, u) refl | inr u ↦ rw (y, z, u) refl ]
       | inr z ↦ rw (y, z) refl ] ]
 
-module _ (ds : List TaskView) (picks : Picks) (k : ℕ) (d : TaskView) (task : Task ds k d) where
+module _ (ds : List TaskView) (picks : Picks) (k : ℕ) (d : TaskView) (task : Is-task ds k d) where
   -- the stream stands after a slot where its arrival left it
   pub moved-at : (m m′ : StateView) (way : ℕ) (g : Event) (after : TaskState) → Onward ds picks m way g m′ → nth (come-to ds picks m way) (k - 1) ≡ Some after →
     (s : TaskState) × (nth (m′ .tasks) (k - 1) ≡ Some s) × (s .position ≡ after .position)
@@ -74,8 +79,8 @@ module _ (ds : List TaskView) (picks : Picks) (k : ℕ) (d : TaskView) (task : T
         let r : Shown-from (d .stream .answer (s .position) w .1) (arrivals-of trace k) = rw q at (shown-from g (n .0) (n .1)) in
         (w ∷ r .0, (b, r .1), rw (e, r .2) refl)
 
-pub sound-stands : Arrivals-sound
-sound-stands ds picks ways trace end proper r k d t =
+pub arrivals-stand : (ds : List TaskView) (picks : Picks) → Proper ds → Arrivals-law ds picks
+arrivals-stand ds picks proper ways trace end r k d t =
     shown-from ds picks k d t (proper .sound (k - 1) d (t .here)) r (record { position = d .stream .first; job = None })
       (firsts-at ds (replicate 8 (record { position = 0; job = None })) (k - 1) d (proper .few) (t .here))
 
@@ -94,7 +99,7 @@ cons-is (w ∷ ws) n h = refl
 -- the way that takes the streams' ways of a number, and stays where that is wished and may be
 module _ (ds : List TaskView) (picks : Picks) (m : StateView) (base : ℕ) (bounded : base < choices ds (m .tasks)) (wish : Bool) where
   abbrev want : Bool
-  want = wish && (eqb (over ds picks m base) 0 && round ds picks m base .may-choose)
+  want = wish && (eqb (over ds picks m base) 0 && round ds picks m base .«may_choose»)
 
   abbrev pub wished : ℕ
   wished = cond want (1 * choices ds (m .tasks) + base) base
@@ -112,27 +117,27 @@ module _ (ds : List TaskView) (picks : Picks) (m : StateView) (base : ℕ) (boun
   over-same : over ds picks m wished ≡ over ds picks m base
   over-same = ap (λ a. overlapping 1 ds (m .tasks) a) (wished-mix ∙ sym (mod-eq-of-lt bounded))
 
-  choose-same : round ds picks m wished .may-choose ≡ round ds picks m base .may-choose
+  choose-same : round ds picks m wished .«may_choose» ≡ round ds picks m base .«may_choose»
   choose-same =
-      ap (λ a. serve-all (picks (sees ds (arrived ds (m .tasks) a)) (m .last)) (stays ds picks m wished) 1 ds (arrived ds (m .tasks) a) .may-choose) (wished-mix ∙ sym (mod-eq-of-lt bounded))
+      ap (λ a. serve-all (picks (sees ds (arrived ds (m .tasks) a)) (m .last)) (stays ds picks m wished) 1 ds (arrived ds (m .tasks) a) .«may_choose») (wished-mix ∙ sym (mod-eq-of-lt bounded))
       ∙ choose-all ds (come-to ds picks m base) (chosen ds picks m base) (stays ds picks m wished) (stays ds picks m base) 1
 
   pub wished-open : slot ds picks m wished ≡ void → ⊥
   wished-open = elim (cases-bool want) [
       inl y ↦
-        let p = and-parts wish (eqb (over ds picks m base) 0 && round ds picks m base .may-choose) y in
-        let q = and-parts (eqb (over ds picks m base) 0) (round ds picks m base .may-choose) (p .1) in
+        let p = and-parts wish (eqb (over ds picks m base) 0 && round ds picks m base .«may_choose») y in
+        let q = and-parts (eqb (over ds picks m base) 0) (round ds picks m base .«may_choose») (p .1) in
         let e : wished ≡ 1 * choices ds (m .tasks) + base = rw y refl in
         not-void-stay ds picks m wished (rw e (omega arith)) (over-same ∙ eqb-true (over ds picks m base) 0 (q .0)) (choose-same ∙ q .1)
     | inr y ↦
         let e : wished ≡ base = rw y refl in
         not-void ds picks m wished (rw e bounded) ]
 
-  pub wished-obeys : over ds picks m wished ≡ 0 → round ds picks m wished .may-choose ≡ true → stays ds picks m wished ≡ wish
+  pub wished-obeys : over ds picks m wished ≡ 0 → round ds picks m wished .«may_choose» ≡ true → stays ds picks m wished ≡ wish
   wished-obeys z c =
       let z′ : eqb (over ds picks m base) 0 ≡ true = eq-eqb (over ds picks m base) 0 (sym over-same ∙ z) in
-      let c′ : round ds picks m base .may-choose ≡ true = sym choose-same ∙ c in
-      wished-stays ∙ ap (λ x. wish && x) (and-from (eqb (over ds picks m base) 0) (round ds picks m base .may-choose) z′ c′) ∙ and-true wish
+      let c′ : round ds picks m base .«may_choose» ≡ true = sym choose-same ∙ c in
+      wished-stays ∙ ap (λ x. wish && x) (and-from (eqb (over ds picks m base) 0) (round ds picks m base .«may_choose») z′ c′) ∙ and-true wish
     where
       and-true : (x : Bool) → (x && true) ≡ x
       and-true true = refl
@@ -142,19 +147,19 @@ module _ (ds : List TaskView) (picks : Picks) (m : StateView) (base : ℕ) (boun
 abbrev pub Obeys : List TaskView → Picks → (ℕ → Bool) → ℕ → StateView → List ℕ → Type 0
 Obeys ds picks wish i m [] = Unit {0}
 Obeys ds picks wish i m (w ∷ ws) =
-    (over ds picks m w ≡ 0 → round ds picks m w .may-choose ≡ true → stays ds picks m w ≡ wish i)
+    (over ds picks m w ≡ 0 → round ds picks m w .«may_choose» ≡ true → stays ds picks m w ≡ wish i)
     × ((m′ : StateView) (e : Option Ended) → slot ds picks m w ≡ next m′ e → Obeys ds picks wish (i + 1) m′ ws)
 
 module _ (ds : List TaskView) (picks : Picks) where
   abbrev Ready : StateView → (ℕ → List ℕ) → ℕ → Type 0
-  Ready m choice n = (k : ℕ) (d : TaskView) → Task ds k d → (s : TaskState) × (nth (m .tasks) (k - 1) ≡ Some s) × IsRun (d .stream) (s .position) (choice k) × (length (choice k) ≡ n)
+  Ready m choice n = (k : ℕ) (d : TaskView) → Is-task ds k d → (s : TaskState) × (nth (m .tasks) (k - 1) ≡ Some s) × IsRun (d .stream) (s .position) (choice k) × (length (choice k) ≡ n)
 
   pub record Built (wish : ℕ → Bool) (i : ℕ) (m : StateView) (choice : ℕ → List ℕ) (n : ℕ) : Type 0 where
     pub b-ways : List ℕ
     pub b-trace : List Event
     pub b-end : Ending
     pub b-goes : RunFrom ds picks m b-ways b-trace b-end
-    pub b-shows : (k : ℕ) (d : TaskView) → Task ds k d → (s : TaskState) → nth (m .tasks) (k - 1) ≡ Some s →
+    pub b-shows : (k : ℕ) (d : TaskView) → Is-task ds k d → (s : TaskState) → nth (m .tasks) (k - 1) ≡ Some s →
       arrivals-of b-trace k ≡ pattern (d .stream) (s .position) (take (length b-trace) (choice k))
     pub b-obeys : Obeys ds picks wish i m b-ways
     pub b-long : (length b-trace ≡ n) ⊎ (Late b-end × (length b-trace < n))
@@ -169,11 +174,11 @@ module _ (ds : List TaskView) (picks : Picks) where
     abbrev base : ℕ
     base = mixed ds (m .tasks) heads
 
-    whole-is : (k : ℕ) (d : TaskView) → Task ds k d → choice k ≡ hd (choice k) ∷ tl (choice k)
+    whole-is : (k : ℕ) (d : TaskView) → Is-task ds k d → choice k ≡ hd (choice k) ∷ tl (choice k)
     whole-is k d t = cons-is (choice k) n (ready k d t .3)
 
     -- at the standing of the task
-    runs-on : (k : ℕ) (d : TaskView) → Task ds k d → (s : TaskState) → nth (m .tasks) (k - 1) ≡ Some s →
+    runs-on : (k : ℕ) (d : TaskView) → Is-task ds k d → (s : TaskState) → nth (m .tasks) (k - 1) ≡ Some s →
       IsRun (d .stream) (s .position) (hd (choice k) ∷ tl (choice k))
     runs-on k d t s hs =
         let r = ready k d t in
@@ -187,7 +192,7 @@ module _ (ds : List TaskView) (picks : Picks) where
     fits : Fits ds (m .tasks) heads
     fits i d s hd′ hs =
         let z : i + 1 - 1 ≡ i = omega arith in
-        let t : Task ds (i + 1) d = record { from-one = omega arith; here = rw z hd′ } in
+        let t : Is-task ds (i + 1) d = record { from-one = omega arith; here = rw z hd′ } in
         runs-on (i + 1) d t s (rw z hs) .0
 
     bounded : base < choices ds (m .tasks)
@@ -196,7 +201,7 @@ module _ (ds : List TaskView) (picks : Picks) where
     abbrev way : ℕ
     way = wished ds picks m base bounded wish
 
-    at : (k : ℕ) (d : TaskView) → Task ds k d → (s : TaskState) → nth (m .tasks) (k - 1) ≡ Some s →
+    at : (k : ℕ) (d : TaskView) → Is-task ds k d → (s : TaskState) → nth (m .tasks) (k - 1) ≡ Some s →
       Mixed-at ds (m .tasks) (mix ds picks m way) (k - 1) (hd (choice k)) d s
     at k d t s hs =
         let z : k - 1 + 1 ≡ k = omega (arith, t .from-one) in
@@ -204,7 +209,7 @@ module _ (ds : List TaskView) (picks : Picks) where
         let x′ : Mixed-at ds (m .tasks) base (k - 1) (hd (choice k)) d s = rw z at x in
         rw (wished-mix ds picks m base bounded wish) x′
 
-    shows-now : (k : ℕ) (d : TaskView) → Task ds k d → (s : TaskState) → nth (m .tasks) (k - 1) ≡ Some s →
+    shows-now : (k : ℕ) (d : TaskView) → Is-task ds k d → (s : TaskState) → nth (m .tasks) (k - 1) ≡ Some s →
       arrives (event ds picks m way) k ≡ d .stream .answer (s .position) (hd (choice k)) .0
     shows-now k d t s hs = ap (λ l. getD l (k - 1) false) (event-arrivals ds picks m way) ∙ at k d t s hs .m-shows
 
@@ -256,18 +261,9 @@ module _ (ds : List TaskView) (picks : Picks) where
               b-long = elim (rest .b-long) [ inl z ↦ inl (omega arith) | inr z ↦ inr (z .0, omega (arith, z .1)) ];
             }
 
-  pub first-at : Proper ds → (k : ℕ) (d : TaskView) → Task ds k d → nth (start-state ds .tasks) (k - 1) ≡ Some (record { position = d .stream .first; job = None })
+  pub first-at : Proper ds → (k : ℕ) (d : TaskView) → Is-task ds k d → nth (start-state ds .tasks) (k - 1) ≡ Some (record { position = d .stream .first; job = None })
   first-at proper k d t = firsts-at ds (replicate 8 (record { position = 0; job = None })) (k - 1) d (proper .few) (t .here)
 
   pub built : (choice : ℕ → List ℕ) (wish : ℕ → Bool) (n : ℕ) → Proper ds → Chosen ds choice n → Built wish 0 (start-state ds) choice n
   built choice wish n proper pre =
       build wish n 0 (start-state ds) choice (λ k d t. (record { position = d .stream .first; job = None }, first-at proper k d t, pre k d t .0, pre k d t .1))
-
-pub complete-stands : Arrivals-complete
-complete-stands ds picks choice n proper pre =
-    let b = built ds picks choice (λ _. false) n proper pre in
-    record {
-      ways = b .b-ways; trace = b .b-trace; end = b .b-end; run = b .b-goes;
-      shows = λ k d t. b .b-shows k d t (record { position = d .stream .first; job = None }) (first-at ds picks proper k d t);
-      long = b .b-long;
-    }

@@ -16,9 +16,14 @@ use Rattle.outcome.specs.declared.Cause.{Cause}
 use Rattle.outcome.specs.declared.Cause.the-variants.{Overlap, Deadline}
 use Rattle.outcome.specs.declared.Ended.{Ended}
 use Rattle.slot.specs.declared.state.TaskState.{TaskState}
-use Rattle.slot.specs.Rule.{TaskView, choices, arrived, overlapping}
-use Rattle.slot.specs.Slot.{StateView, OutcomeView, void, late, next, slot, sees, Round, serve-all, runner-after, settled}
-use Rattle.runs.specs.Run.{Event, event, arrivals-in, ended-in}
+use Rattle.slot.specs.Arrivals.{choices, arrived, overlapping}
+use Rattle.slot.specs.Tasks.{TaskView}
+use Rattle.slot.specs.declared.work.Round.{Round}
+use Rattle.slot.specs.Slot.{StateView, OutcomeView, void, late, next, slot, runner-after, settled}
+use Rattle.slot.specs.Work.{sees, serve-all}
+use Rattle.slot.specs.Arrivals.{arrivals-in}
+use Rattle.slot.specs.Slot.{event, ended-in}
+use Rattle.slot.specs.declared.event.Event.{Event}
 
 -- the tests of a slot, as variables
 abbrev whole : Bool → Bool → Bool → Bool → Bool → ℕ → ℕ → StateView → Option Ended → OutcomeView
@@ -143,7 +148,7 @@ module _ (ds : List TaskView) (picks : Picks) (m : StateView) (way : ℕ) where
   pub next-went : (m′ : StateView) (e : Option Ended) → slot ds picks m way ≡ next m′ e → Onward (event ds picks m way) m′
   unfolding event
   next-went m′ e h =
-      let w = went (ltb way (2 * choices ds (m .tasks))) (eqb over 0) stays (round .may-choose) (eqb (round .late) 0) over (round .late)
+      let w = went (ltb way (2 * choices ds (m .tasks))) (eqb over 0) stays (round .«may_choose») (eqb (round .late) 0) over (round .late)
         (record { tasks = round .tasks; last = runner-after chosen (round .ended) }) m′ (round .ended) e h in
       record {
         clear = record {
@@ -161,7 +166,7 @@ module _ (ds : List TaskView) (picks : Picks) (m : StateView) (way : ℕ) where
     Crossed (event ds picks m way) k c ⊎ Tardy (event ds picks m way) k c
   unfolding event
   late-went k c e h =
-      elim (failed (ltb way (2 * choices ds (m .tasks))) (eqb over 0) stays (round .may-choose) (eqb (round .late) 0) over (round .late) k
+      elim (failed (ltb way (2 * choices ds (m .tasks))) (eqb over 0) stays (round .«may_choose») (eqb (round .late) 0) over (round .late) k
         (record { tasks = round .tasks; last = runner-after chosen (round .ended) }) c (round .ended) e h) [
         inl w ↦ inl (record {
           x-task = w .o-task;
@@ -189,21 +194,21 @@ module _ (ds : List TaskView) (picks : Picks) (m : StateView) (way : ℕ) where
 
   pub not-void : way < choices ds (m .tasks) → slot ds picks m way ≡ void → ⊥
   not-void h =
-      unvoid (ltb way (2 * choices ds (m .tasks))) (eqb over 0) stays (round .may-choose) (eqb (round .late) 0) over (round .late)
+      unvoid (ltb way (2 * choices ds (m .tasks))) (eqb over 0) stays (round .«may_choose») (eqb (round .late) 0) over (round .late)
         (record { tasks = round .tasks; last = runner-after chosen (round .ended) }) (round .ended)
         (lt-ltb way (2 * choices ds (m .tasks)) (omega arith)) (ap (λ x. eqb x 1) (div-eq-of-lt h))
 
-  pub not-void-stay : way < 2 * choices ds (m .tasks) → over ≡ 0 → round .may-choose ≡ true → slot ds picks m way ≡ void → ⊥
+  pub not-void-stay : way < 2 * choices ds (m .tasks) → over ≡ 0 → round .«may_choose» ≡ true → slot ds picks m way ≡ void → ⊥
   not-void-stay h z y =
-      unvoid-stay (ltb way (2 * choices ds (m .tasks))) (eqb over 0) stays (round .may-choose) (eqb (round .late) 0) over (round .late)
+      unvoid-stay (ltb way (2 * choices ds (m .tasks))) (eqb over 0) stays (round .«may_choose») (eqb (round .late) 0) over (round .late)
         (record { tasks = round .tasks; last = runner-after chosen (round .ended) }) (round .ended)
         (lt-ltb way (2 * choices ds (m .tasks)) h) (eq-eqb over 0 z) y
 
-  pub stay-pending : stays ≡ true → (slot ds picks m way ≡ void → ⊥) → (over ≡ 0) × (round .may-choose ≡ true)
+  pub stay-pending : stays ≡ true → (slot ds picks m way ≡ void → ⊥) → (over ≡ 0) × (round .«may_choose» ≡ true)
   stay-pending h o =
-      let x = stay-unvoid (ltb way (2 * choices ds (m .tasks))) (eqb over 0) (round .may-choose) (eqb (round .late) 0) over (round .late)
+      let x = stay-unvoid (ltb way (2 * choices ds (m .tasks))) (eqb over 0) (round .«may_choose») (eqb (round .late) 0) over (round .late)
         (record { tasks = round .tasks; last = runner-after chosen (round .ended) }) (round .ended)
-        (λ v. o (ap (λ b. whole (ltb way (2 * choices ds (m .tasks))) (eqb over 0) b (round .may-choose) (eqb (round .late) 0) over (round .late)
+        (λ v. o (ap (λ b. whole (ltb way (2 * choices ds (m .tasks))) (eqb over 0) b (round .«may_choose») (eqb (round .late) 0) over (round .late)
           (record { tasks = round .tasks; last = runner-after chosen (round .ended) }) (round .ended)) h ∙ v)) in
       (eqb-true over 0 (x .0), x .1)
 

@@ -1,3 +1,4 @@
+mod Releases
 mod Invert
 mod Tasks
 mod Life
@@ -8,6 +9,7 @@ mod Arrive
 mod Staying
 mod Picking
 mod Plans
-pub mod Ways
+mod Replaying
 mod Wishing
 mod Numbers
+mod Stand

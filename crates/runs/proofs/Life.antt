@@ -11,12 +11,15 @@ use Rattle.std.specs.declared.option.Option.{Option}
 use Rattle.std.specs.declared.option.Option.the-variants.{Some, None}
 use Rattle.std.proofs.shelf.Tests.{cases-bool, cases-eq, cases-order, both-ways}
 use Rattle.slot.specs.declared.state.Job.{Job}
-use Rattle.slot.specs.Rule.{TaskView, given}
-use Rattle.slot.specs.Slot.{serve-job}
-use Rattle.runs.specs.Run.{Event, arrives, runs, response, Timed}
-use Rattle.runs.specs.Response.{executed, Pending-before, Responds}
-use Rattle.runs.specs.Dispatched.{Pending-in, Age-as-shown}
-use Rattle.slot.specs.Slot.{age-of}
+use Rattle.slot.specs.Tasks.{TaskView}
+use Rattle.slot.specs.Work.{serve-job}
+use Rattle.runs.proofs.Releases.{given, overlap-is}
+use Rattle.runs.specs.Dispatch.{Age-as-shown}
+use Rattle.runs.specs.Pending.{Pending-before, Pending-in}
+use Rattle.runs.specs.Response.{executed, Responds}
+use Rattle.runs.specs.Run.{arrives, is-picked, response, Timed}
+use Rattle.slot.specs.declared.event.Event.{Event}
+use Rattle.slot.specs.Work.{age-of}
 
 -- what a slot does with a job
 pub record Ends (picked : Bool) (d : TaskView) (j : Job) (r : Option ℕ) (o : Option Job) (tardy : Bool) : Type 0 where
@@ -105,12 +108,12 @@ module _ (f : ℕ → Event) (k : ℕ) (d : TaskView) (timed : Timed d) where
   }
 
   -- how long the job was picked, with slot n
-  pub executed-on : (n : ℕ) (j : Job) → Mid n j → executed f k (n - j .age) (j .age + 1) ≡ j .work + cond (runs (f n) k) 1 0
+  pub executed-on : (n : ℕ) (j : Job) → Mid n j → executed f k (n - j .age) (j .age + 1) ≡ j .work + cond (is-picked (f n) k) 1 0
   executed-on n j m =
       let e : n - j .age + j .age ≡ n = omega (arith, m .within) in
       rw (add-one, e, m .work) refl
 
-  pub answered : (n : ℕ) (j : Job) (r : Option ℕ) (o : Option Job) (t : Bool) → Mid n j → Ends (runs (f n) k) d j r o t → Responds f k d n (j .age + 1)
+  pub answered : (n : ℕ) (j : Job) (r : Option ℕ) (o : Option Job) (t : Bool) → Mid n j → Ends (is-picked (f n) k) d j r o t → Responds f k d n (j .age + 1)
   answered n j r o t m e =
       let s : n + 1 - (j .age + 1) ≡ n - j .age = omega arith in
       let w : executed f k (n - j .age) (j .age + 1) ≡ j .work + 1 = executed-on n j m ∙ rw (e .e-picked) refl in
@@ -136,8 +139,8 @@ module _ (f : ℕ → Event) (k : ℕ) (d : TaskView) (timed : Timed d) where
       | inr e ↦ let r = c .closed a (omega arith) q in (r .0, r .1, omega (arith, r .2), r .3, r .4) ];
   }
 
-  pub stayed : (n : ℕ) (j : Job) (r : Option ℕ) (o : Option Job) (t : Bool) → Mid n j → Stays (runs (f n) k) d j r o t → response (f n) k ≡ r → t ≡ false →
-    Alive (n + 1) (record { work = j .work + cond (runs (f n) k) 1 0; age = j .age + 1 })
+  pub stayed : (n : ℕ) (j : Job) (r : Option ℕ) (o : Option Job) (t : Bool) → Mid n j → Stays (is-picked (f n) k) d j r o t → response (f n) k ≡ r → t ≡ false →
+    Alive (n + 1) (record { work = j .work + cond (is-picked (f n) k) 1 0; age = j .age + 1 })
   stayed n j r o t m e hr ht =
       let s : n + 1 - (j .age + 1) ≡ n - j .age = omega arith in
       let late : leb (d .deadline) (j .age + 1) ≡ false = sym (e .s-timely) ∙ ht in
@@ -148,7 +151,7 @@ module _ (f : ℕ → Event) (k : ℕ) (d : TaskView) (timed : Timed d) where
         l-alone = rw s (λ i p q. m .alone i p (omega arith));
         l-unended = rw s (λ i p q. elim (cases-eq i n) [ inl z ↦ rw z (hr ∙ e .s-response) | inr z ↦ m .unended i p (omega arith) ]);
         l-work = rw s (executed-on n j m);
-        l-below = elim (cases-bool (runs (f n) k)) [ inl y ↦ rw y (e .s-below y) | inr y ↦ rw y (omega (arith, m .below)) ];
+        l-below = elim (cases-bool (is-picked (f n) k)) [ inl y ↦ rw y (e .s-below y) | inr y ↦ rw y (omega (arith, m .below)) ];
         l-young = leb-false (d .deadline) (j .age + 1) late;
       }
 
@@ -156,7 +159,7 @@ module _ (f : ℕ → Event) (k : ℕ) (d : TaskView) (timed : Timed d) where
   abbrev pub Expired : ℕ → Type 0
   Expired n = (a : ℕ) × Pending-before f k a (n + 1) × (n + 1 ≡ a + d .deadline)
 
-  pub expired : (n : ℕ) (j : Job) (r : Option ℕ) (o : Option Job) (t : Bool) → Mid n j → Stays (runs (f n) k) d j r o t → response (f n) k ≡ r → t ≡ true → Expired n
+  pub expired : (n : ℕ) (j : Job) (r : Option ℕ) (o : Option Job) (t : Bool) → Mid n j → Stays (is-picked (f n) k) d j r o t → response (f n) k ≡ r → t ≡ true → Expired n
   expired n j r o t m e hr ht =
       let late : leb (d .deadline) (j .age + 1) ≡ true = sym (e .s-timely) ∙ ht in
       (n - j .age,
@@ -263,8 +266,8 @@ module _ (f : ℕ → Event) (k : ℕ) (d : TaskView) (timed : Timed d) where
     pub expires : tardy ≡ true → Expired n
 
   pub one-slot : (n p : ℕ) (stay : Bool) (o o′ : Option Job) → o′ ≡ given (arrives (f n) k) o → Lives n o → (arrives (f n) k ≡ true → o ≡ None) →
-    response (f n) k ≡ serve-job (runs (f n) k) stay d p o′ .response →
-    One n (serve-job (runs (f n) k) stay d p o′ .state .job) (serve-job (runs (f n) k) stay d p o′ .late)
+    response (f n) k ≡ serve-job (is-picked (f n) k) stay d p o′ .response →
+    One n (serve-job (is-picked (f n) k) stay d p o′ .state .job) (serve-job (is-picked (f n) k) stay d p o′ .late)
   one-slot n p stay o None e l fr hr = record {
     law = λ x h. let z : _≡_ {A = ℕ} 0 1 = cc in elim (let no : ⊥ = omega arith in no) [ ];
     onward = λ _. closed-of n o l (sym e);
@@ -272,7 +275,7 @@ module _ (f : ℕ → Event) (k : ℕ) (d : TaskView) (timed : Timed d) where
   }
   one-slot n p stay o (Some j) e l fr hr =
       let m = mid-of n o j l fr (sym e) in
-      elim (does (runs (f n) k) stay d p j timed) [
+      elim (does (is-picked (f n) k) stay d p j timed) [
         inl b ↦ record {
           law = λ x h. let q : j .age + 1 ≡ x = same-some (j .age + 1) x (sym (hr ∙ b .e-response) ∙ h) in rw (sym q) (answered n j _ _ _ m b);
           onward = λ _. rw (b .e-job) (ended-closed n (j .age + 1) (hr ∙ b .e-response));

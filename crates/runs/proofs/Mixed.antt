@@ -12,8 +12,9 @@ use Rattle.std.specs.Finite.{nth}
 use Rattle.std.specs.declared.option.Option.{Option}
 use Rattle.std.specs.declared.option.Option.the-variants.{Some, None}
 use Rattle.slot.specs.declared.state.TaskState.{TaskState}
-use Rattle.slot.specs.Rule.{TaskView, choices, come, arrived}
-use Rattle.runs.specs.Run.{arrivals-in}
+use Rattle.slot.specs.Arrivals.{choices, come, arrived}
+use Rattle.slot.specs.Tasks.{TaskView}
+use Rattle.slot.specs.Arrivals.{arrivals-in}
 
 abbrev pub mixed : List TaskView → List TaskState → (ℕ → ℕ) → ℕ
 mixed [] ss h = 0

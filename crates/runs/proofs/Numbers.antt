@@ -20,12 +20,17 @@ use Rattle.outcome.specs.declared.Cause.{Cause}
 use Rattle.outcome.specs.declared.Ended.{Ended}
 use Rattle.slot.specs.declared.state.Job.{Job}
 use Rattle.slot.specs.declared.state.TaskState.{TaskState}
-use Rattle.slot.specs.Rule.{TaskView, choices, given, arrived, overlapping}
-use Rattle.slot.specs.Slot.{StateView, OutcomeView, void, late, next, slot, sees, serve-all, serve, serve-job}
-use Rattle.runs.specs.Run.{Event, arrives, runs, event, Ending, ends-in, ends-late, Run, event-at, blank, Timed, Proper, Task}
-use Rattle.runs.specs.Response.{executed}
-use Rattle.runs.specs.Dispatched.{Pending-in}
+use Rattle.slot.specs.Arrivals.{choices, arrived, overlapping}
+use Rattle.slot.specs.Tasks.{TaskView}
+use Rattle.slot.specs.Slot.{StateView, OutcomeView, void, late, next, slot}
+use Rattle.slot.specs.Work.{sees, serve-all, serve, serve-job}
+use Rattle.runs.proofs.Releases.{given, overlap-is}
 use Rattle.runs.specs.Numbering.{Chooses, Numbered, Numbering-law}
+use Rattle.runs.specs.Pending.{Pending-in}
+use Rattle.runs.specs.Response.{executed}
+use Rattle.runs.specs.Run.{arrives, is-picked, Ending, ends-in, ends-late, Run, event-at, blank, Timed, Proper, Is-task}
+use Rattle.slot.specs.Slot.{event}
+use Rattle.slot.specs.declared.event.Event.{Event}
 use Rattle.runs.proofs.Invert.{mix, come-to, chosen, stays, over, round, Clear, Crossed, next-went, late-went, not-void, not-void-stay, stay-pending, none-beyond}
 use Rattle.runs.proofs.Tasks.{choose-at, choose-all, Chooser, chooser}
 use Rattle.runs.proofs.Life.{Lives, Mid, mid-of, executed-on, age-as-shown}
@@ -40,7 +45,7 @@ record May (picked : Bool) (d : TaskView) (o : Option Job) : Type 0 where
   pub y-best : d .best ≤ y-job .work + 1
   pub y-worst : y-job .work + 1 < d .worst
 
-may : (picked stay : Bool) (d : TaskView) (p : ℕ) (o : Option Job) → serve-job picked stay d p o .may-choose ≡ true → May picked d o
+may : (picked stay : Bool) (d : TaskView) (p : ℕ) (o : Option Job) → serve-job picked stay d p o .«may_choose» ≡ true → May picked d o
 may picked stay d p None h = elim (both-ways false refl h) [ ]
 may false stay d p (Some j) h = elim (both-ways false refl h) [ ]
 may true stay d p (Some j) h =
@@ -50,7 +55,7 @@ may true stay d p (Some j) h =
         inl z ↦ record { y-picked = refl; y-job = j; y-is = refl; y-best = leb-true (d .best) (j .work + 1) z; y-worst = leb-false (d .worst) (j .work + 1) y }
       | inr z ↦ let h′ : false ≡ true = rw (y, z) at h in elim (both-ways false refl h′) [ ] ] ]
 
-executed-up : (f : ℕ → Event) (k : ℕ) (d : TaskView) (t : Timed d) (n : ℕ) (j : Job) → Mid f k d t n j → runs (f n) k ≡ true →
+executed-up : (f : ℕ → Event) (k : ℕ) (d : TaskView) (t : Timed d) (n : ℕ) (j : Job) → Mid f k d t n j → is-picked (f n) k ≡ true →
   executed f k (n - j .age) (n + 1 - (n - j .age)) ≡ j .work + 1
 executed-up f k d t n j m r =
     let len : n + 1 - (n - j .age) ≡ j .age + 1 = omega (arith, m .within) in
@@ -75,9 +80,9 @@ module _ (ds : List TaskView) (picks : Picks) (proper : Proper ds) (m : StateVie
   over-same : over ds picks m more ≡ over ds picks m w
   over-same = ap (λ a. overlapping 1 ds (m .tasks) a) mixes
 
-  choose-same : round ds picks m more .may-choose ≡ round ds picks m w .may-choose
+  choose-same : round ds picks m more .«may_choose» ≡ round ds picks m w .«may_choose»
   choose-same =
-      ap (λ a. serve-all (picks (sees ds (arrived ds (m .tasks) a)) (m .last)) (stays ds picks m more) 1 ds (arrived ds (m .tasks) a) .may-choose) mixes
+      ap (λ a. serve-all (picks (sees ds (arrived ds (m .tasks) a)) (m .last)) (stays ds picks m more) 1 ds (arrived ds (m .tasks) a) .«may_choose») mixes
       ∙ choose-all ds (come-to ds picks m w) (chosen ds picks m w) (stays ds picks m more) (stays ds picks m w) 1
 
   module _ (f : ℕ → Event) (n : ℕ) (here : event ds picks m w ≡ f n) (know : Know ds picks proper f n m) where
@@ -106,7 +111,7 @@ module _ (ds : List TaskView) (picks : Picks) (proper : Proper ds) (m : StateVie
           let j = told-job f k d (timed-of ds picks proper k d t) (ch .since) n (x .mid .position) st (know k d t .0 .job) (x .mid .job)
             (x .t-job) (know k d t .2) (x .t-fresh) (ch .pending) (ch .picked) (ch .best) (ch .worst) in
           let e : k ≡ 1 + (k - 1) = omega (arith, t .from-one) in
-          let y : serve (eqb k (chosen ds picks m w)) st d (x .mid) .may-choose ≡ true = rw (c .c-picked) at (j .may) in
+          let y : serve (eqb k (chosen ds picks m w)) st d (x .mid) .«may_choose» ≡ true = rw (c .c-picked) at (j .may) in
           let all = choose-at ds (come-to ds picks m w) (chosen ds picks m w) st 1 (k - 1) k d (x .mid) e (t .here) (x .t-mid) y in
           not-void-stay ds picks m more (omega arith) (over-same ∙ c .no-overlap) (choose-same ∙ all)
       | inr c ↦
@@ -122,12 +127,12 @@ module _ (ds : List TaskView) (picks : Picks) (proper : Proper ds) (m : StateVie
             let k : ℕ = 1 + z .z-index in
             let ki : k - 1 ≡ z .z-index = omega arith in
             let d = z .z-view in
-            let t : Task ds k d = record { from-one = omega arith; here = rw ki (z .z-in-views) } in
+            let t : Is-task ds k d = record { from-one = omega arith; here = rw ki (z .z-in-views) } in
             let x = did ds picks proper f n m w c know k d t in
             let tm = timed-of ds picks proper k d t in
             let same-mid : z .z-state ≡ x .mid = same (z .z-state) (x .mid) (sym (rw ki (z .z-in-tasks)) ∙ x .t-mid) in
-            let y : serve (runs (f n) k) (stays ds picks m w) d (x .mid) .may-choose ≡ true = rw (c .c-picked, sym same-mid) (z .z-may) in
-            let v = may (runs (f n) k) (stays ds picks m w) d (x .mid .position) (x .mid .job) y in
+            let y : serve (is-picked (f n) k) (stays ds picks m w) d (x .mid) .«may_choose» ≡ true = rw (c .c-picked, sym same-mid) (z .z-may) in
+            let v = may (is-picked (f n) k) (stays ds picks m w) d (x .mid .position) (x .mid .job) y in
             let j = v .y-job in
             let e : Some j ≡ given (arrives (f n) k) (know k d t .0 .job) = sym (v .y-is) ∙ x .t-job in
             let sn = age-as-shown f k d tm n (know k d t .0 .job) (Some j) e (know k d t .2) (x .t-fresh) in
@@ -143,8 +148,8 @@ module _ (ds : List TaskView) (picks : Picks) (proper : Proper ds) (m : StateVie
         same : (a b : TaskState) → Some a ≡ Some b → a ≡ b
         same a b h = cc
 
-pub numbering-stands : Numbering-law
-numbering-stands ds picks ways trace m proper r =
+pub numbering-stands : (ds : List TaskView) (picks : Picks) → Proper ds → Numbering-law ds picks
+numbering-stands ds picks proper ways trace m r =
     let f : ℕ → ℕ → Event = λ w. event-at (trace ++ (event ds picks m w ∷ [])) in
     let know : (w : ℕ) → Know ds picks proper (f w) (length trace) m = λ w.
       let z : 0 + length trace ≡ length trace = omega arith in

@@ -9,7 +9,7 @@ use Rattle.std.specs.declared.option.Option.{Option}
 use Rattle.std.specs.declared.option.Option.the-variants.{Some, None}
 use Rattle.streams.specs.Meaning.{Meaning, Sound}
 use Rattle.slot.specs.declared.plan.Task.{Task}
-use Rattle.slot.specs.Rule.{TaskView, task-view, task-views}
+use Rattle.slot.specs.Tasks.{TaskView, task-view, task-views}
 use Rattle.runs.specs.Run.{Timed, Proper}
 
 module _ {S : Type 0} (meaning : S → Meaning) (law : (s : S) → Sound (meaning s)) where

@@ -16,11 +16,13 @@ use Rattle.outcome.specs.declared.Cause.{Cause}
 use Rattle.outcome.specs.declared.Cause.the-variants.{Overlap, Deadline}
 use Rattle.slot.specs.declared.state.Job.{Job}
 use Rattle.slot.specs.declared.state.TaskState.{TaskState}
-use Rattle.slot.specs.Rule.{TaskView}
-use Rattle.slot.specs.Slot.{StateView, serve}
-use Rattle.runs.specs.Run.{Event, arrives, runs, Ending, ends-in, ends-late, Run, event-at, Timed, Proper, Task}
-use Rattle.runs.specs.Response.{Pending-before}
-use Rattle.runs.specs.Unfinished.{Overlaps, Misses-deadline, Smallest, Lateness, Lateness-law}
+use Rattle.slot.specs.Tasks.{TaskView}
+use Rattle.slot.specs.Slot.{StateView}
+use Rattle.slot.specs.Work.{serve}
+use Rattle.runs.specs.Lateness.{Overlaps, Misses-deadline, Smallest, Lateness, Lateness-law}
+use Rattle.runs.specs.Pending.{Pending-before}
+use Rattle.runs.specs.Run.{arrives, is-picked, Ending, ends-in, ends-late, Run, event-at, Timed, Proper, Is-task}
+use Rattle.slot.specs.declared.event.Event.{Event}
 use Rattle.runs.proofs.Invert.{mix, come-to, chosen, stays, round, Clear, Crossed, Tardy}
 use Rattle.runs.proofs.Tasks.{Crossing, crossing, Staying-job, staying-job}
 use Rattle.runs.proofs.Life.{Lives, none-pending}
@@ -42,7 +44,7 @@ module _ (ds : List TaskView) (picks : Picks) (proper : Proper ds) (f : ℕ → 
     index-is : k - 1 ≡ x .x-index
     index-is = omega (arith, x .x-number)
 
-    t : Task ds k (x .x-view)
+    t : Is-task ds k (x .x-view)
     t = record { from-one = omega (arith, x .x-number); here = rw index-is (x .x-in-views) }
 
     state-is : know k (x .x-view) t .0 ≡ x .x-state
@@ -77,10 +79,10 @@ module _ (ds : List TaskView) (picks : Picks) (proper : Proper ds) (f : ℕ → 
     index-is′ : k - 1 ≡ y .y-index
     index-is′ = omega (arith, y .y-number)
 
-    t″ : Task ds k (y .y-view)
+    t″ : Is-task ds k (y .y-view)
     t″ = record { from-one = omega (arith, y .y-number); here = rw index-is′ (y .y-in-views) }
 
-    abbrev went : (i : ℕ) (d : TaskView) (u : Task ds i d) → TaskState
+    abbrev went : (i : ℕ) (d : TaskView) (u : Is-task ds i d) → TaskState
     went i d u = did ds picks proper f n m way (w .clear) know i d u .mid
 
     mid-is : y .y-state ≡ went k (y .y-view) t″
@@ -88,7 +90,7 @@ module _ (ds : List TaskView) (picks : Picks) (proper : Proper ds) (f : ℕ → 
 
     pub tardy-here : Misses-deadline ds f k n
     tardy-here =
-        let e : serve (runs (f n) k) (stays ds picks m way) (y .y-view) (went k (y .y-view) t″) .late ≡ true =
+        let e : serve (is-picked (f n) k) (stays ds picks m way) (y .y-view) (went k (y .y-view) t″) .late ≡ true =
           rw (w .clear .c-picked, sym mid-is) (y .y-late) in
         let r = clear-expires ds picks proper f n m way (w .clear) know k (y .y-view) t″ e in
         record { e-view = y .y-view; e-task = t″; e-since = r .0; e-pending = r .1; e-reached = r .2 }
@@ -146,5 +148,5 @@ module _ (ds : List TaskView) (picks : Picks) (proper : Proper ds) (trace : List
               | inr q ↦ (k, ap (ends-late k) (w .t-cause), omega (arith, r .l-is)) ];
           } ]
 
-pub lateness-stands : Lateness-law
-lateness-stands ds picks ways trace end proper r = late-of ds picks proper trace end (told ds picks proper trace r .final)
+pub lateness-stands : (ds : List TaskView) (picks : Picks) → Proper ds → Lateness-law ds picks
+lateness-stands ds picks proper ways trace end r = late-of ds picks proper trace end (told ds picks proper trace r .final)

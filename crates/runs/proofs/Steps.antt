@@ -17,24 +17,28 @@ use Rattle.dispatch.specs.Picks.{Picks}
 use Rattle.outcome.specs.declared.Cause.{Cause}
 use Rattle.slot.specs.declared.state.Job.{Job}
 use Rattle.slot.specs.declared.state.TaskState.{TaskState}
-use Rattle.slot.specs.Rule.{TaskView, given}
-use Rattle.slot.specs.Slot.{StateView, OutcomeView, void, late, next, slot, serve, serve-job, serve-all, start-state}
-use Rattle.runs.specs.Run.{Event, arrives, runs, response, of-task, event, Ending, ends-in, ends-late, RunFrom, empty, last-late, way-then, Run, event-at, blank, Timed, Proper, Task}
+use Rattle.slot.specs.Tasks.{TaskView}
+use Rattle.slot.specs.Slot.{StateView, OutcomeView, void, late, next, slot, start-state}
+use Rattle.slot.specs.Work.{serve, serve-job, serve-all}
+use Rattle.runs.proofs.Releases.{given, overlap-is}
 use Rattle.runs.specs.Response.{Responds, Response-law}
+use Rattle.runs.specs.Run.{arrives, is-picked, response, of-task, Ending, ends-in, ends-late, RunFrom, empty, last-late, way-then, Run, event-at, blank, Timed, Proper, Is-task}
+use Rattle.slot.specs.Slot.{event}
+use Rattle.slot.specs.declared.event.Event.{Event}
 use Rattle.runs.proofs.Invert.{mix, come-to, chosen, stays, over, round, Clear, Onward, Crossed, Tardy, next-went, late-went}
 use Rattle.runs.proofs.Tasks.{Arrived-at, arrived-at, alone-at, serve-all-at, ended-at, timely-at, firsts-at}
 use Rattle.runs.proofs.Life.{Closed, Lives, One, one-slot}
 
-module _ (ds : List TaskView) (picks : Picks) (k : ℕ) (d : TaskView) (task : Task ds k d) where
+module _ (ds : List TaskView) (picks : Picks) (k : ℕ) (d : TaskView) (task : Is-task ds k d) where
   -- what a slot with no overlap does with the task
   pub record Does-task (m : StateView) (way : ℕ) (g : Event) (s : TaskState) : Type 0 where
     pub mid : TaskState
     pub t-mid : nth (come-to ds picks m way) (k - 1) ≡ Some mid
     pub t-job : mid .job ≡ given (arrives g k) (s .job)
     pub t-fresh : arrives g k ≡ true → s .job ≡ None
-    pub t-response : response g k ≡ serve (runs g k) (stays ds picks m way) d mid .response
-    pub t-next : nth (round ds picks m way .tasks) (k - 1) ≡ Some (serve (runs g k) (stays ds picks m way) d mid .state)
-    pub t-late : round ds picks m way .late ≡ 0 → serve (runs g k) (stays ds picks m way) d mid .late ≡ false
+    pub t-response : response g k ≡ serve (is-picked g k) (stays ds picks m way) d mid .response
+    pub t-next : nth (round ds picks m way .tasks) (k - 1) ≡ Some (serve (is-picked g k) (stays ds picks m way) d mid .state)
+    pub t-late : round ds picks m way .late ≡ 0 → serve (is-picked g k) (stays ds picks m way) d mid .late ≡ false
 
   pub does-task : (m : StateView) (way : ℕ) (g : Event) (s : TaskState) → Clear ds picks m way g → nth (m .tasks) (k - 1) ≡ Some s → Does-task m way g s
   does-task m way g s c hs =

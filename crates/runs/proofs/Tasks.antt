@@ -16,10 +16,14 @@ use Rattle.std.proofs.shelf.Tests.{cases-bool, and-parts, both-ways}
 use Rattle.outcome.specs.declared.Ended.{Ended}
 use Rattle.slot.specs.declared.state.Job.{Job}
 use Rattle.slot.specs.declared.state.TaskState.{TaskState}
-use Rattle.slot.specs.Rule.{TaskView, come, given, arrived, overlapping}
+use Rattle.slot.specs.Arrivals.{come, arrived, overlapping}
+use Rattle.slot.specs.Tasks.{TaskView}
 use Rattle.dispatch.specs.declared.Seen.{Seen}
-use Rattle.slot.specs.Slot.{sees, age-of, serve, serve-job, serve-all, ended-by, firsts}
-use Rattle.runs.specs.Run.{arrivals-in, of-task}
+use Rattle.slot.specs.Slot.{firsts}
+use Rattle.slot.specs.Work.{sees, age-of, serve, serve-job, serve-all, ended-by}
+use Rattle.runs.proofs.Releases.{given, overlap-is}
+use Rattle.runs.specs.Run.{of-task}
+use Rattle.slot.specs.Arrivals.{arrivals-in, overlaps}
 
 pub record Arrived-at (d : TaskView) (s : TaskState) (ds : List TaskView) (ss : List TaskState) (a i : ℕ) : Type 0 where
   pub part : ℕ
@@ -50,14 +54,15 @@ pub alone-at : (ds : List TaskView) (ss : List TaskState) (n a i : ℕ) (d : Tas
 alone-at [] ss n a i d s hn ho hd hs b = let z : _≡_ {A = ℕ} 0 1 = cc in elim (let no : ⊥ = omega arith in no) [ ]
 alone-at (e ∷ ds) [] n a i d s hn ho hd hs b = let z : _≡_ {A = ℕ} 0 1 = cc in elim (let no : ⊥ = omega arith in no) [ ]
 alone-at (e ∷ ds) (t ∷ ss) n a zero d s hn ho hd hs b =
-    elim (cases-bool (come e t a .overlaps)) [
+    elim (cases-bool (overlaps (come e t a .release))) [
       inl y ↦ let z : n ≡ 0 = rw y at ho in elim (let no : ⊥ = omega arith in no) [ ]
     | inr y ↦
-      let q : isSome (t .job) ≡ false = rw b at y in
+      let y′ = sym (overlap-is (come e t a .arrives) (t .job)) ∙ y in
+      let q : isSome (t .job) ≡ false = rw b at y′ in
       let se : t ≡ s = cc in
       rw (sym se) (none-is (t .job) q) ]
 alone-at (e ∷ ds) (t ∷ ss) n a (suc i) d s hn ho hd hs b =
-    elim (cases-bool (come e t a .overlaps)) [
+    elim (cases-bool (overlaps (come e t a .release))) [
       inl y ↦ let z : n ≡ 0 = rw y at ho in elim (let no : ⊥ = omega arith in no) [ ]
     | inr y ↦
       let ho′ : overlapping (n + 1) ds ss (come e t a .left) ≡ 0 = rw y at ho in
@@ -158,10 +163,10 @@ pub crossing : (ds : List TaskView) (ss : List TaskState) (n a k : ℕ) → over
 crossing [] ss n a k h z = elim (z (sym h)) [ ]
 crossing (e ∷ ds) [] n a k h z = elim (z (sym h)) [ ]
 crossing (e ∷ ds) (t ∷ ss) n a k h z =
-    elim (cases-bool (come e t a .overlaps)) [
+    elim (cases-bool (overlaps (come e t a .release))) [
       inl y ↦
         let q : n ≡ k = rw y at h in
-        let b = and-parts (getD (arrivals-in (e ∷ ds) (t ∷ ss) a) 0 false) (isSome (t .job)) y in
+        let b = and-parts (come e t a .arrives) (isSome (t .job)) (sym (overlap-is (come e t a .arrives) (t .job)) ∙ y) in
         record {
           x-index = 0; x-number = omega arith; x-view = e; x-state = t; x-in-views = refl; x-in-tasks = refl;
           x-arrives = b .0; x-has = some-is (t .job) (b .1);
@@ -175,7 +180,8 @@ crossing (e ∷ ds) (t ∷ ss) n a k h z =
           x-in-views = r .x-in-views; x-in-tasks = r .x-in-tasks; x-arrives = r .x-arrives; x-has = r .x-has;
           x-first = elim [
               zero ↦ λ d s p hd hs b.
-                let q : isSome (t .job) ≡ false = rw b at y in
+                let y′ = sym (overlap-is (come e t a .arrives) (t .job)) ∙ y in
+                let q : isSome (t .job) ≡ false = rw b at y′ in
                 let se : t ≡ s = cc in
                 rw (sym se) (none-is (t .job) q)
             | suc i ↦ λ d s p hd hs b. r .x-first i d s (omega arith) hd hs b ];
@@ -236,7 +242,7 @@ sees-only (e ∷ ds) (s ∷ ss) zero t h = (e, refl)
 sees-only (e ∷ ds) (s ∷ ss) (suc i) t h = sees-only ds ss i t h
 
 -- whether a job may choose does not hang on the choice
-choose-same : (picked a b : Bool) (d : TaskView) (p : ℕ) (o : Option Job) → serve-job picked a d p o .may-choose ≡ serve-job picked b d p o .may-choose
+choose-same : (picked a b : Bool) (d : TaskView) (p : ℕ) (o : Option Job) → serve-job picked a d p o .«may_choose» ≡ serve-job picked b d p o .«may_choose»
 choose-same picked a b d p None = refl
 choose-same false a b d p (Some j) = refl
 choose-same true a b d p (Some j) =
@@ -248,25 +254,25 @@ choose-same true a b d p (Some j) =
           | inr u ↦ elim (cases-bool b) [ inl v ↦ rw (y, z, u, v) refl | inr v ↦ rw (y, z, u, v) refl ] ]
       | inr z ↦ rw (y, z) refl ] ]
 
-pub choose-all : (ds : List TaskView) (ss : List TaskState) (pick : ℕ) (a b : Bool) (n : ℕ) → serve-all pick a n ds ss .may-choose ≡ serve-all pick b n ds ss .may-choose
+pub choose-all : (ds : List TaskView) (ss : List TaskState) (pick : ℕ) (a b : Bool) (n : ℕ) → serve-all pick a n ds ss .«may_choose» ≡ serve-all pick b n ds ss .«may_choose»
 choose-all [] ss pick a b n = refl
 choose-all (e ∷ ds) [] pick a b n = refl
 choose-all (e ∷ ds) (t ∷ ss) pick a b n =
     rw (choose-same (eqb n pick) a b e (t .position) (t .job), choose-all ds ss pick a b (n + 1)) refl
 
 pub choose-at : (ds : List TaskView) (ss : List TaskState) (pick : ℕ) (stay : Bool) (n i k : ℕ) (d : TaskView) (s : TaskState) → k ≡ n + i →
-  nth ds i ≡ Some d → nth ss i ≡ Some s → serve (eqb k pick) stay d s .may-choose ≡ true → serve-all pick stay n ds ss .may-choose ≡ true
+  nth ds i ≡ Some d → nth ss i ≡ Some s → serve (eqb k pick) stay d s .«may_choose» ≡ true → serve-all pick stay n ds ss .«may_choose» ≡ true
 choose-at [] ss pick stay n i k d s hk hd hs h = let z : _≡_ {A = ℕ} 0 1 = cc in elim (let no : ⊥ = omega arith in no) [ ]
 choose-at (e ∷ ds) [] pick stay n i k d s hk hd hs h = let z : _≡_ {A = ℕ} 0 1 = cc in elim (let no : ⊥ = omega arith in no) [ ]
 choose-at (e ∷ ds) (t ∷ ss) pick stay n zero k d s hk hd hs h =
     let ke : k ≡ n = omega arith in
     let de : e ≡ d = cc in
     let se : t ≡ s = cc in
-    let h′ : serve (eqb n pick) stay e t .may-choose ≡ true = rw (ke, sym de, sym se) at h in
+    let h′ : serve (eqb n pick) stay e t .«may_choose» ≡ true = rw (ke, sym de, sym se) at h in
     rw h′ refl
 choose-at (e ∷ ds) (t ∷ ss) pick stay n (suc i) k d s hk hd hs h =
     let ih = choose-at ds ss pick stay (n + 1) i k d s (omega arith) hd hs h in
-    elim (cases-bool (serve (eqb n pick) stay e t .may-choose)) [ inl y ↦ rw y refl | inr y ↦ rw (y, ih) refl ]
+    elim (cases-bool (serve (eqb n pick) stay e t .«may_choose»)) [ inl y ↦ rw y refl | inr y ↦ rw (y, ih) refl ]
 
 -- the task that may choose
 pub record Chooser (ds : List TaskView) (ss : List TaskState) (pick : ℕ) (stay : Bool) (n : ℕ) : Type 0 where
@@ -275,17 +281,17 @@ pub record Chooser (ds : List TaskView) (ss : List TaskState) (pick : ℕ) (stay
   pub z-state : TaskState
   pub z-in-views : nth ds z-index ≡ Some z-view
   pub z-in-tasks : nth ss z-index ≡ Some z-state
-  pub z-may : serve (eqb (n + z-index) pick) stay z-view z-state .may-choose ≡ true
+  pub z-may : serve (eqb (n + z-index) pick) stay z-view z-state .«may_choose» ≡ true
 
-pub chooser : (ds : List TaskView) (ss : List TaskState) (pick : ℕ) (stay : Bool) (n : ℕ) → serve-all pick stay n ds ss .may-choose ≡ true → Chooser ds ss pick stay n
+pub chooser : (ds : List TaskView) (ss : List TaskState) (pick : ℕ) (stay : Bool) (n : ℕ) → serve-all pick stay n ds ss .«may_choose» ≡ true → Chooser ds ss pick stay n
 chooser [] ss pick stay n h = elim (both-ways false refl h) [ ]
 chooser (e ∷ ds) [] pick stay n h = elim (both-ways false refl h) [ ]
 chooser (e ∷ ds) (t ∷ ss) pick stay n h =
-    elim (cases-bool (serve (eqb n pick) stay e t .may-choose)) [
+    elim (cases-bool (serve (eqb n pick) stay e t .«may_choose»)) [
       inl y ↦ let z : n + 0 ≡ n = omega arith in
         record { z-index = 0; z-view = e; z-state = t; z-in-views = refl; z-in-tasks = refl; z-may = rw z y }
     | inr y ↦
-        let h′ : serve-all pick stay (n + 1) ds ss .may-choose ≡ true = rw y at h in
+        let h′ : serve-all pick stay (n + 1) ds ss .«may_choose» ≡ true = rw y at h in
         let r = chooser ds ss pick stay (n + 1) h′ in
         let z : n + suc (r .z-index) ≡ n + 1 + r .z-index = omega arith in
         record { z-index = suc (r .z-index); z-view = r .z-view; z-state = r .z-state; z-in-views = r .z-in-views; z-in-tasks = r .z-in-tasks; z-may = rw z (r .z-may) } ]

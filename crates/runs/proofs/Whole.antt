@@ -17,14 +17,17 @@ use Rattle.dispatch.specs.Picks.{Picks}
 use Rattle.outcome.specs.declared.Cause.{Cause}
 use Rattle.slot.specs.declared.state.Job.{Job}
 use Rattle.slot.specs.declared.state.TaskState.{TaskState}
-use Rattle.slot.specs.Rule.{TaskView, given}
-use Rattle.slot.specs.Slot.{StateView, OutcomeView, void, late, next, slot, sees, age-of, runner-after, serve, serve-job, serve-all, start-state}
-use Rattle.runs.specs.Run.{Event, arrives, runs, response, of-task, event, Ending, ends-in, ends-late, RunFrom, empty, last-late, way-then, Run, event-at, blank, Timed, Proper, Task}
+use Rattle.slot.specs.Tasks.{TaskView}
+use Rattle.slot.specs.Slot.{StateView, OutcomeView, void, late, next, slot, runner-after, start-state}
+use Rattle.slot.specs.Work.{sees, age-of, serve, serve-job, serve-all}
+use Rattle.runs.specs.Dispatch.{Age-as-shown, Seen-as-shown, last-runner, Dispatch-law}
+use Rattle.runs.specs.Lateness.{Unfinished, Job-as-shown, Unfinished-law, Overlaps, Misses-deadline, Smallest, Lateness, Lateness-law}
+use Rattle.runs.specs.Pending.{Pending-before, Pending-in}
 use Rattle.runs.specs.Response.{Responds, Response-law}
-use Rattle.runs.specs.Unfinished.{Unfinished, Job-as-shown, Unfinished-law, Overlaps, Misses-deadline, Smallest, Lateness, Lateness-law}
+use Rattle.runs.specs.Run.{arrives, is-picked, response, of-task, Ending, ends-in, ends-late, RunFrom, empty, last-late, way-then, Run, event-at, blank, Timed, Proper, Is-task}
+use Rattle.slot.specs.Slot.{event}
+use Rattle.slot.specs.declared.event.Event.{Event}
 use Rattle.outcome.specs.declared.Cause.the-variants.{Overlap, Deadline}
-use Rattle.runs.specs.Response.{Pending-before}
-use Rattle.runs.specs.Dispatched.{Pending-in, Age-as-shown, Seen-as-shown, last-runner, Dispatch-law}
 use Rattle.dispatch.specs.declared.Seen.{Seen}
 use native.Mathlib.Numerals.{add-one}
 use Rattle.runs.proofs.Invert.{mix, come-to, chosen, stays, round, Clear, Onward, Crossed, Tardy, next-went, late-went}
@@ -38,22 +41,22 @@ pub at-suc : (s : Event) (ss : List Event) (f : ℕ → Event) (n i : ℕ) → n
 at-suc s ss f n i p h = let z : i - n ≡ suc (i - (n + 1)) = omega arith in rw z at h
 
 module _ (ds : List TaskView) (picks : Picks) (proper : Proper ds) where
-  abbrev pub timed-of : (k : ℕ) (d : TaskView) → Task ds k d → Timed d
+  abbrev pub timed-of : (k : ℕ) (d : TaskView) → Is-task ds k d → Timed d
   timed-of k d t = proper .timed (k - 1) d (t .here)
 
   -- each task stands before slot n as the sights of the slots before it say
   abbrev pub Know : (ℕ → Event) → ℕ → StateView → Type 0
-  Know f n m = (k : ℕ) (d : TaskView) (t : Task ds k d) → (s : TaskState) × (nth (m .tasks) (k - 1) ≡ Some s) × Lives f k d (timed-of k d t) n (s .job)
+  Know f n m = (k : ℕ) (d : TaskView) (t : Is-task ds k d) → (s : TaskState) × (nth (m .tasks) (k - 1) ≡ Some s) × Lives f k d (timed-of k d t) n (s .job)
 
   abbrev pub Law : (ℕ → Event) → ℕ → Type 0
-  Law f n = (k : ℕ) (d : TaskView) → Task ds k d → (x : ℕ) → response (f n) k ≡ Some x → Responds f k d n x
+  Law f n = (k : ℕ) (d : TaskView) → Is-task ds k d → (x : ℕ) → response (f n) k ≡ Some x → Responds f k d n x
 
   module _ (f : ℕ → Event) (n : ℕ) (m : StateView) (way : ℕ) (c : Clear ds picks m way (f n)) (know : Know f n m) where
-    pub did : (k : ℕ) (d : TaskView) (t : Task ds k d) → Does-task ds picks k d t m way (f n) (know k d t .0)
+    pub did : (k : ℕ) (d : TaskView) (t : Is-task ds k d) → Does-task ds picks k d t m way (f n) (know k d t .0)
     did k d t = does-task ds picks k d t m way (f n) (know k d t .0) c (know k d t .1)
 
-    ones : (k : ℕ) (d : TaskView) (t : Task ds k d) →
-      One f k d (timed-of k d t) n (serve (runs (f n) k) (stays ds picks m way) d (did k d t .mid) .state .job) (serve (runs (f n) k) (stays ds picks m way) d (did k d t .mid) .late)
+    ones : (k : ℕ) (d : TaskView) (t : Is-task ds k d) →
+      One f k d (timed-of k d t) n (serve (is-picked (f n) k) (stays ds picks m way) d (did k d t .mid) .state .job) (serve (is-picked (f n) k) (stays ds picks m way) d (did k d t .mid) .late)
     ones k d t =
         one-slot f k d (timed-of k d t) n (did k d t .mid .position) (stays ds picks m way) (know k d t .0 .job) (did k d t .mid .job)
           (did k d t .t-job) (know k d t .2) (did k d t .t-fresh) (did k d t .t-response)
@@ -63,15 +66,15 @@ module _ (ds : List TaskView) (picks : Picks) (proper : Proper ds) where
 
     pub clear-know : (m′ : StateView) → round ds picks m way .late ≡ 0 → m′ .tasks ≡ round ds picks m way .tasks → Know f (n + 1) m′
     clear-know m′ z e k d t =
-        (serve (runs (f n) k) (stays ds picks m way) d (did k d t .mid) .state,
+        (serve (is-picked (f n) k) (stays ds picks m way) d (did k d t .mid) .state,
          rw e (did k d t .t-next),
          ones k d t .onward (did k d t .t-late z))
 
-    pub clear-expires : (k : ℕ) (d : TaskView) (t : Task ds k d) → serve (runs (f n) k) (stays ds picks m way) d (did k d t .mid) .late ≡ true →
+    pub clear-expires : (k : ℕ) (d : TaskView) (t : Is-task ds k d) → serve (is-picked (f n) k) (stays ds picks m way) d (did k d t .mid) .late ≡ true →
       (a : ℕ) × Pending-before f k a (n + 1) × (n + 1 ≡ a + d .deadline)
     clear-expires k d t h = ones k d t .expires h
 
-    pub clear-timely : (k : ℕ) → (e : Misses-deadline ds f k n) → serve (runs (f n) k) (stays ds picks m way) (e .e-view) (did k (e .e-view) (e .e-task) .mid) .late ≡ false → ⊥
+    pub clear-timely : (k : ℕ) → (e : Misses-deadline ds f k n) → serve (is-picked (f n) k) (stays ds picks m way) (e .e-view) (did k (e .e-view) (e .e-task) .mid) .late ≡ false → ⊥
     clear-timely k e h =
         let d = e .e-view in
         let t = e .e-task in
@@ -87,7 +90,7 @@ module _ (ds : List TaskView) (picks : Picks) (proper : Proper ds) where
 
     pub clear-view : Seen-as-shown ds f n (sees ds (come-to ds picks m way))
     clear-view = record {
-      seen = λ k d t.
+      seen-task = λ k d t.
         let mid = did k d t .mid in
         (age-of (mid .job),
          sees-at ds (come-to ds picks m way) (k - 1) d mid (t .here) (did k d t .t-mid),
@@ -240,8 +243,8 @@ module _ (ds : List TaskView) (picks : Picks) (proper : Proper ds) where
       let t = follow r (event-at trace) 0 (λ i p q. let z : i - 0 ≡ i = omega arith in ap (event-at trace) z) (know-first (event-at trace)) in
       rw z at t
 
-pub responses-stand : Response-law
-responses-stand ds picks ways trace end proper r k d t n x h =
+pub responses-stand : (ds : List TaskView) (picks : Picks) → Proper ds → Response-law ds picks
+responses-stand ds picks proper ways trace end r k d t n x h =
     elim (cases-lt n (length trace)) [
       inl p ↦ told ds picks proper trace r .laws n (omega arith) p k d t x h
     | inr p ↦
@@ -260,7 +263,7 @@ job-as-shown f k d t n (Some j) l = record {
   young = l .l-young;
 }
 
-pub unfinished-stands : Unfinished-law
-unfinished-stands ds picks ways trace m proper r k d t =
+pub unfinished-stands : (ds : List TaskView) (picks : Picks) → Proper ds → Unfinished-law ds picks
+unfinished-stands ds picks proper ways trace m r k d t =
     let x = told ds picks proper trace r .final .r-know k d t in
     (x .0, x .1, job-as-shown (event-at trace) k d (timed-of ds picks proper k d t) (length trace) (x .0 .job) (x .2))

@@ -17,12 +17,17 @@ use Rattle.outcome.specs.declared.Cause.{Cause}
 use Rattle.outcome.specs.declared.Ended.{Ended}
 use Rattle.slot.specs.declared.state.Job.{Job}
 use Rattle.slot.specs.declared.state.TaskState.{TaskState}
-use Rattle.slot.specs.Rule.{TaskView, given}
-use Rattle.slot.specs.Slot.{StateView, OutcomeView, void, late, next, slot, serve, serve-job, age-of, start-state}
-use Rattle.runs.specs.Run.{Event, arrives, runs, response, event, Ending, ends-in, ends-late, RunFrom, empty, last-late, way-then, Run, event-at, Timed, Proper, Task}
+use Rattle.slot.specs.Tasks.{TaskView}
+use Rattle.slot.specs.Slot.{StateView, OutcomeView, void, late, next, slot, start-state}
+use Rattle.slot.specs.Work.{serve, serve-job, age-of}
+use Rattle.runs.proofs.Releases.{given, overlap-is}
+use Rattle.runs.specs.Dispatch.{Age-as-shown}
+use Rattle.runs.specs.Pending.{Pending-in}
 use Rattle.runs.specs.Response.{executed}
-use Rattle.runs.specs.Dispatched.{Pending-in, Age-as-shown}
-use Rattle.runs.specs.Choice.{Obeyed, Follows, Choice-law, Work-bounds, Work-law}
+use Rattle.runs.specs.Run.{arrives, is-picked, response, Ending, ends-in, ends-late, RunFrom, empty, last-late, way-then, Run, event-at, Timed, Proper, Is-task}
+use Rattle.runs.specs.Work.{Obeyed, Follows, Choice-law, Work-bounds, Work-law}
+use Rattle.slot.specs.Slot.{event}
+use Rattle.slot.specs.declared.event.Event.{Event}
 use Rattle.runs.proofs.Invert.{come-to, chosen, stays, over, round, Clear, Onward, Crossed, Tardy, next-went, late-went}
 use Rattle.runs.proofs.Tasks.{choose-at}
 use Rattle.runs.proofs.Life.{Lives, Mid, mid-of, executed-on, age-as-shown}
@@ -31,7 +36,7 @@ use Rattle.runs.proofs.Arrive.{Obeys, Built, built, first-at}
 
 -- a job that may choose does as it is told
 choosing : (stay : Bool) (d : TaskView) (p : ℕ) (j : Job) → d .best ≤ j .work + 1 → j .work + 1 < d .worst →
-  (serve-job true stay d p (Some j) .may-choose ≡ true) × (serve-job true stay d p (Some j) .response ≡ cond stay None (Some (j .age + 1)))
+  (serve-job true stay d p (Some j) .«may_choose» ≡ true) × (serve-job true stay d p (Some j) .response ≡ cond stay None (Some (j .age + 1)))
 choosing true d p j h g =
     let y : leb (d .worst) (j .work + 1) ≡ false = lt-leb (d .worst) (j .work + 1) g in
     let z : leb (d .best) (j .work + 1) ≡ true = le-leb (d .best) (j .work + 1) h in
@@ -50,11 +55,11 @@ one-since f n k a a′ w w′ =
       | inr p ↦ elim (both-ways (arrives (f a) k) (w′ .alone a p (w .before)) (w .came)) [ ] ] ]
 
 pub record Told-job (f : ℕ → Event) (k : ℕ) (d : TaskView) (a n p : ℕ) (stay : Bool) (o : Option Job) : Type 0 where
-  pub may : serve-job (runs (f n) k) stay d p o .may-choose ≡ true
-  pub does : serve-job (runs (f n) k) stay d p o .response ≡ cond stay None (Some (n + 1 - a))
+  pub may : serve-job (is-picked (f n) k) stay d p o .«may_choose» ≡ true
+  pub does : serve-job (is-picked (f n) k) stay d p o .response ≡ cond stay None (Some (n + 1 - a))
 
 pub told-job : (f : ℕ → Event) (k : ℕ) (d : TaskView) (t : Timed d) (a n p : ℕ) (stay : Bool) (o o′ : Option Job) → o′ ≡ given (arrives (f n) k) o → Lives f k d t n o →
-  (arrives (f n) k ≡ true → o ≡ None) → Pending-in f k a n → runs (f n) k ≡ true →
+  (arrives (f n) k ≡ true → o ≡ None) → Pending-in f k a n → is-picked (f n) k ≡ true →
   d .best ≤ executed f k a (n + 1 - a) → executed f k a (n + 1 - a) < d .worst → Told-job f k d a n p stay o′
 told-job f k d t a n p stay o None e l fr w r h g = elim (age-as-shown f k d t n o None e l fr a w) [ ]
 told-job f k d t a n p stay o (Some j) e l fr w r h g =
@@ -68,14 +73,14 @@ told-job f k d t a n p stay o (Some j) e l fr w r h g =
 
 module _ (ds : List TaskView) (picks : Picks) (proper : Proper ds) where
   clear-obeyed : (f : ℕ → Event) (n : ℕ) (m : StateView) (way : ℕ) (wish : Bool) → Clear ds picks m way (f n) → Know ds picks proper f n m →
-    (over ds picks m way ≡ 0 → round ds picks m way .may-choose ≡ true → stays ds picks m way ≡ wish) → Obeyed ds f wish n
+    (over ds picks m way ≡ 0 → round ds picks m way .«may_choose» ≡ true → stays ds picks m way ≡ wish) → Obeyed ds f wish n
   clear-obeyed f n m way wish c know ob k d a t w r h g =
       let x = did ds picks proper f n m way c know k d t in
       let st = stays ds picks m way in
       let j = told-job f k d (timed-of ds picks proper k d t) a n (x .mid .position) st (know k d t .0 .job) (x .mid .job)
         (x .t-job) (know k d t .2) (x .t-fresh) w r h g in
       let e : k ≡ 1 + (k - 1) = omega (arith, t .from-one) in
-      let may : serve (eqb k (chosen ds picks m way)) st d (x .mid) .may-choose ≡ true = rw (c .c-picked) at (j .may) in
+      let may : serve (eqb k (chosen ds picks m way)) st d (x .mid) .«may_choose» ≡ true = rw (c .c-picked) at (j .may) in
       let all = choose-at ds (come-to ds picks m way) (chosen ds picks m way) st 1 (k - 1) k d (x .mid) e (t .here) (x .t-mid) may in
       let so : st ≡ wish = ob (c .no-overlap) all in
       let resp : response (f n) k ≡ cond wish None (Some (n + 1 - a)) = x .t-response ∙ j .does ∙ ap (λ b. cond b None (Some (n + 1 - a))) so in
@@ -102,8 +107,8 @@ module _ (ds : List TaskView) (picks : Picks) (proper : Proper ds) where
         obeyed g f wish (n + 1) (λ i p q. at-suc (event ds picks m way) trace f n i p (agree i (omega arith) (omega arith)))
           (clear-know ds picks proper f n m way (w .clear) know m′ (w .timely) (w .tasks-are)) (ob .1 m′ e h) i (omega arith) (omega arith) ]
 
-pub choice-stands : Choice-law
-choice-stands ds picks choice wish n proper pre =
+pub choice-stands : (ds : List TaskView) (picks : Picks) → Proper ds → Choice-law ds picks
+choice-stands ds picks proper choice wish n pre =
     let b = built ds picks choice wish n proper pre in
     record {
       ways = b .b-ways; trace = b .b-trace; end = b .b-end; run = b .b-goes;
@@ -115,9 +120,9 @@ choice-stands ds picks choice wish n proper pre =
 
 -- what must be
 bounded : (f : ℕ → Event) (k : ℕ) (d : TaskView) (t : Timed d) (a n p : ℕ) (stay : Bool) (o o′ : Option Job) → o′ ≡ given (arrives (f n) k) o → Lives f k d t n o →
-  (arrives (f n) k ≡ true → o ≡ None) → Pending-in f k a n → runs (f n) k ≡ true →
-  (d .worst ≤ executed f k a (n + 1 - a) → serve-job (runs (f n) k) stay d p o′ .response ≡ Some (n + 1 - a))
-  × (executed f k a (n + 1 - a) < d .best → serve-job (runs (f n) k) stay d p o′ .response ≡ None)
+  (arrives (f n) k ≡ true → o ≡ None) → Pending-in f k a n → is-picked (f n) k ≡ true →
+  (d .worst ≤ executed f k a (n + 1 - a) → serve-job (is-picked (f n) k) stay d p o′ .response ≡ Some (n + 1 - a))
+  × (executed f k a (n + 1 - a) < d .best → serve-job (is-picked (f n) k) stay d p o′ .response ≡ None)
 bounded f k d t a n p stay o None e l fr w r = elim (age-as-shown f k d t n o None e l fr a w) [ ]
 bounded f k d t a n p stay o (Some j) e l fr w r =
     let m = mid-of f k d t n o j l fr (sym e) in
@@ -133,8 +138,8 @@ bounded f k d t a n p stay o (Some j) e l fr w r =
        let z : leb (d .best) (j .work + 1) ≡ false = lt-leb (d .best) (j .work + 1) (omega arith) in
        rw (r, y, z) refl)
 
-pub work-stands : Work-law
-work-stands ds picks ways trace end proper r n p =
+pub work-stands : (ds : List TaskView) (picks : Picks) → Proper ds → Work-law ds picks
+work-stands ds picks proper ways trace end r n p =
     let x = slot-of ds picks proper trace r n p in
     let f = event-at trace in
     elim (x .a-kind) [
@@ -149,7 +154,7 @@ work-stands ds picks ways trace end proper r n p =
             (y .t-job) (x .a-know k d t .2) (y .t-fresh) w u .1 h;
       }
     | inr w ↦
-      let idle : (k : ℕ) → 1 ≤ k → runs (f n) k ≡ true → ⊥ = λ k h u.
+      let idle : (k : ℕ) → 1 ≤ k → is-picked (f n) k ≡ true → ⊥ = λ k h u.
         let z : k ≡ f n .picked = eqb-true k (f n .picked) u in omega (arith, z, w .2 .x-picked) in
       record {
         ends = λ k d a t v u h. elim (idle k (t .from-one) u) [ ];

@@ -1,19 +1,28 @@
--- What the code says of a list of ways.
+-- What a replay says of a list of ways.
+use mathlib.Core.Path.{_≡_}
 use mathlib.Core.List.{List}
-use Prim.Native.Nat.{ℕ}
+use Prim.Native.Nat.{ℕ, min, _≤_, _<_}
+use lib.ListN.{length, getD, take, drop}
 use Rattle.dispatch.specs.Picks.{Picks}
-use Rattle.slot.specs.Rule.{TaskView}
-use Rattle.slot.specs.Slot.{StateView, start-state, state-view}
+use Rattle.slot.specs.declared.event.Event.{Event}
+use Rattle.slot.specs.Tasks.{TaskView}
+use Rattle.slot.specs.Slot.{StateView, void, slot, state-view}
 use Rattle.runs.specs.declared.Replayed.{Replayed}
-use Rattle.runs.specs.declared.Replayed.the-variants.{Void, Late, Reached}
-use Rattle.runs.specs.Run.{Event, Ending, ends-in, ends-late, RunFrom}
+use Rattle.runs.specs.declared.Stop.{Stop}
+use Rattle.runs.specs.declared.Stop.the-variants.{Void, Late, End}
+use Rattle.runs.specs.Run.{ends-in, ends-late, Run}
 
--- The ways lead from the state to this end.
-abbrev pub Ran : List TaskView → Picks → StateView → List ℕ → Ending → Type 0
-Ran ds picks m ways end = (trace : List Event) × RunFrom ds picks m ways trace end
+-- Why it stopped after n slots, whose ways are a run with the trace that was written: the next way is void; or the run is late; or
+-- the ways, or the places for events, came to an end.
+abbrev pub Stopped : List TaskView → Picks → List ℕ → List Event → ℕ → Stop → Type 0
+Stopped ts picks ways trace n Void =
+    (m : StateView) × Run ts picks (take n ways) (take n trace) (ends-in m) × (n < length ways) × (slot ts picks m (getD ways n 0) ≡ void)
+Stopped ts picks ways trace n (Late k c) = Run ts picks (take n ways) (take n trace) (ends-late k c)
+Stopped ts picks ways trace n (End s) =
+    (n ≡ min (length ways) (length trace)) × Run ts picks (take n ways) (take n trace) (ends-in (state-view s))
 
--- The answer for a list of ways: how its run ends, or that it is no run.
-abbrev pub Replays : List TaskView → Picks → List ℕ → Replayed → Type 0
-Replays ds picks ways Void = (end : Ending) → Ran ds picks (start-state ds) ways end → ⊥
-Replays ds picks ways (Late k c) = Ran ds picks (start-state ds) ways (ends-late k c)
-Replays ds picks ways (Reached s) = Ran ds picks (start-state ds) ways (ends-in (state-view s))
+pub record Replays (ts : List TaskView) (picks : Picks) (ways : List ℕ) (before after : List Event) (r : Replayed) : Type 0 where
+  pub within-ways : r .slots ≤ length ways
+  pub within-trace : r .slots ≤ length after
+  pub rest : drop (r .slots) after ≡ drop (r .slots) before
+  pub stop : Stopped ts picks ways after (r .slots) (r .stop)

@@ -1,11 +1,12 @@
-use lib.ListN.{drop}
-use Rattle.slot.specs.Rule.{task-views}
-use Rattle.slot.specs.Slot.{start-state, state-view}
-use Rattle.runs.proofs.Ways.{Leads}
+use mathlib.Core.Path.{_≡_}
+use lib.ListN.{length, take, drop}
+use Rattle.slot.specs.Tasks.{task-views}
+use Rattle.slot.specs.Slot.{state-view}
+use Rattle.runs.specs.Run.{ends-in, Run}
 use Rattle.runs.proofs.replay.Given as given
 
--- what is left to walk, from the state, ends as the whole list does
+-- the ways so far are a run that shows the trace so far and reached the state
 abbrev pub Inv-loop-i : given.InvT-loop-i
 Inv-loop-i g l =
-    Leads (task-views (g .S·Stream .meaning) (l .plan .tasks)) (g .D·Dispatch .picks (l .rule)) (start-state (task-views (g .S·Stream .meaning) (l .plan .tasks))) (l .ways)
-      (state-view (l .state)) (drop (l .i) (l .ways))
+    Run (task-views (g .S·Stream .meaning) (l .plan .tasks)) (g .D·Dispatch .picks (l .rule)) (take (l .i) (l .ways)) (take (l .i) (l .trace)) (ends-in (state-view (l .state)))
+    × (drop (l .i) (l .trace) ≡ drop (l .i) (l .entry .trace))
