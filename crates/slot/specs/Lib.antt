@@ -5,3 +5,5 @@ pub mod Tasks
 pub mod Arrivals
 pub mod Work
 pub mod Slot
+pub mod Fields
+pub mod Adding

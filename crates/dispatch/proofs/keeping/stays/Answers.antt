@@ -1,8 +1,6 @@
-use mathlib.Core.Path.{_≡_, sym, ap, _∙_}
-use mathlib.Core.Bool.{false}
+use mathlib.Core.Path.{sym, ap, _∙_}
 use native.Mathlib.Omega.{arith}
-use Prim.Native.Nat.{_-_, _≤_}
-use lib.ListN.{length}
+use Prim.Native.Nat.{_-_}
 use Rattle.dispatch.specs.Picks.{has-job}
 use Rattle.dispatch.proofs.Jobs.{job-read, job-past, has-job-at}
 use Rattle.dispatch.proofs.keeping.stays.Needs as need
