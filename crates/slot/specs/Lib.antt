@@ -7,3 +7,4 @@ pub mod Work
 pub mod Slot
 pub mod Fields
 pub mod Adding
+pub mod Record

@@ -63,7 +63,7 @@ impl<S: Stream> Plan<S> {
 
 impl<S: Stream + Drop> Plan<S> {
     // A task more, unless the plan has eight.
-    fn put(&mut self, task: Task<S>) -> Result<(), Fault>
+    pub(crate) fn put(&mut self, task: Task<S>) -> Result<(), Fault>
         ensures added { λ r. ⌜ Added (task-views (S·Stream .meaning) (now (self .entry) .tasks)) (task-views (S·Stream .meaning) (now (self .exit) .tasks)) (Ok (task-view (S·Stream .meaning) task)) r ⌝ }
         ensures same { λ r. ⌜ refused r (λ _. now (self .exit) ≡ now (self .entry)) ⌝ }
     {

@@ -1,0 +1,81 @@
+-- Plan records: 24 bytes, little-endian, one for each task.
+use mathlib.Core.Path.{_≡_}
+use mathlib.Core.Bool.{cond}
+use mathlib.Core.List.{List, [], _∷_}
+use Prim.Native.Nat.{ℕ, _+_, _*_}
+use lib.Dec.{eqb}
+use lib.ListN.{length, getD, drop}
+use Rattle.std.specs.declared.option.Option.{Option}
+use Rattle.std.specs.declared.option.Option.the-variants.{Some, None}
+use Rattle.std.specs.declared.result.Result.{Result}
+use Rattle.std.specs.declared.result.Result.the-variants.{Ok, Err}
+use Rattle.refusals.specs.declared.Fault.{Fault}
+use Rattle.refusals.specs.declared.Refusal.the-variants.{RecordLength, Kind, StreamBounds, ZeroBytes}
+use Rattle.streams.specs.declared.either.Either.{Either}
+use Rattle.streams.specs.declared.either.Either.the-variants.{Left, Right}
+use Rattle.streams.specs.declared.parameter.Parameter.{Parameter}
+use Rattle.streams.specs.declared.periodic.Periodic.{Periodic}
+use Rattle.streams.specs.declared.sporadic.Sporadic.{Sporadic}
+use Rattle.streams.specs.Meaning.{Meaning}
+use Rattle.streams.specs.Parameters.{periodic-fault, sporadic-fault}
+use Rattle.streams.specs.Periodic.{periodic}
+use Rattle.streams.specs.Sporadic.{sporadic}
+use Rattle.slot.specs.declared.record.Letter.{Letter}
+use Rattle.slot.specs.declared.record.Letter.the-variants.{P, S}
+use Rattle.slot.specs.Fields.{parameter-offset}
+use Rattle.slot.specs.declared.plan.Task.{Task}
+use Rattle.slot.specs.Tasks.{TaskView, task-view}
+use Rattle.slot.specs.Adding.{fault-at, read-numbers}
+
+-- What a stream of either kind means.
+abbrev pub kind-meaning : Either Periodic Sporadic → Meaning
+kind-meaning (Left s) = periodic (s .period) (s .jitter) (s .offset)
+kind-meaning (Right s) = sporadic (s .least) (s .greatest) (s .offset)
+
+-- The letter of a kind, and the number of two bytes.
+abbrev pub letter-of : ℕ → Option Letter
+letter-of b = cond (eqb b 80) (Some P) (cond (eqb b 83) (Some S) None)
+
+abbrev pub word : List ℕ → ℕ → ℕ
+word bs i = getD bs i 0 + 256 * getD bs (i + 1) 0
+
+-- The stream that a record names: offset in bytes 8 and 9, period or least gap in 10 and 11, jitter or greatest gap in 12 and 13.
+abbrev pub stream-fault : Letter → ℕ → ℕ → ℕ → Option Parameter
+stream-fault P o x y = periodic-fault x y o
+stream-fault S o x y = sporadic-fault x y o
+
+abbrev pub stream-meaning : Letter → ℕ → ℕ → ℕ → Meaning
+stream-meaning P o x y = periodic x y o
+stream-meaning S o x y = sporadic x y o
+
+-- The offset of the first byte that is not 0, counted from i.
+abbrev pub first-nonzero : ℕ → List ℕ → Option ℕ
+first-nonzero i [] = None
+first-nonzero i (b ∷ bs) = cond (eqb b 0) (first-nonzero (i + 1) bs) (Some i)
+
+-- The checks of a record, in their order: its length, its letter, the task's numbers, the stream's, and the bytes that are 0.
+abbrev pub check-zeros : ℕ → Option ℕ → TaskView → Result TaskView Fault
+check-zeros number None t = Ok t
+check-zeros number (Some i) t = Err (fault-at ZeroBytes number i)
+
+abbrev pub check-stream : ℕ → Option Parameter → Result TaskView Fault → Result TaskView Fault
+check-stream number None rest = rest
+check-stream number (Some p) rest = Err (fault-at StreamBounds number (parameter-offset p))
+
+abbrev pub then-check : Result TaskView Fault → (TaskView → Result TaskView Fault) → Result TaskView Fault
+then-check (Ok t) rest = rest t
+then-check (Err f) rest = Err f
+
+abbrev pub read-lettered : ℕ → List ℕ → Option Letter → Result TaskView Fault
+read-lettered number bs None = Err (fault-at Kind number 0)
+read-lettered number bs (Some k) =
+    then-check (read-numbers number (stream-meaning k (word bs 8) (word bs 10) (word bs 12)) (getD bs 1 0) (word bs 2) (word bs 4) (word bs 6))
+      (λ t. check-stream number (stream-fault k (word bs 8) (word bs 10) (word bs 12)) (check-zeros number (first-nonzero 14 (drop 14 bs)) t))
+
+abbrev pub read-record : ℕ → List ℕ → Result TaskView Fault
+read-record number bs = cond (eqb (length bs) 24) (read-lettered number bs (letter-of (getD bs 0 0))) (Err (fault-at RecordLength number 0))
+
+-- The code's answer is what is read.
+abbrev pub Reads : Result (Task (Either Periodic Sporadic)) Fault → Result TaskView Fault → Type 0
+Reads (Ok t) reading = reading ≡ Ok (task-view kind-meaning t)
+Reads (Err f) reading = reading ≡ Err f
