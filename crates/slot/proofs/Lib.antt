@@ -3,3 +3,4 @@ pub mod Rounds
 pub mod Places
 pub mod Bounds
 pub mod Few
+pub mod Records

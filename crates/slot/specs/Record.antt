@@ -2,9 +2,9 @@
 use mathlib.Core.Path.{_≡_}
 use mathlib.Core.Bool.{cond}
 use mathlib.Core.List.{List, [], _∷_}
-use Prim.Native.Nat.{ℕ, _+_, _*_}
+use Prim.Native.Nat.{ℕ, zero, suc, _+_, _*_}
 use lib.Dec.{eqb}
-use lib.ListN.{length, getD, drop}
+use lib.ListN.{length, getD, take, drop}
 use Rattle.std.specs.declared.option.Option.{Option}
 use Rattle.std.specs.declared.option.Option.the-variants.{Some, None}
 use Rattle.std.specs.declared.result.Result.{Result}
@@ -23,9 +23,10 @@ use Rattle.streams.specs.Sporadic.{sporadic}
 use Rattle.slot.specs.declared.record.Letter.{Letter}
 use Rattle.slot.specs.declared.record.Letter.the-variants.{P, S}
 use Rattle.slot.specs.Fields.{parameter-offset}
+use Rattle.slot.specs.declared.plan.Plan.{Plan}
 use Rattle.slot.specs.declared.plan.Task.{Task}
-use Rattle.slot.specs.Tasks.{TaskView, task-view}
-use Rattle.slot.specs.Adding.{fault-at, read-numbers}
+use Rattle.slot.specs.Tasks.{TaskView, task-view, task-views}
+use Rattle.slot.specs.Adding.{fault-at, read-numbers, adding}
 
 -- What a stream of either kind means.
 abbrev pub kind-meaning : Either Periodic Sporadic → Meaning
@@ -79,3 +80,26 @@ read-record number bs = cond (eqb (length bs) 24) (read-lettered number bs (lett
 abbrev pub Reads : Result (Task (Either Periodic Sporadic)) Fault → Result TaskView Fault → Type 0
 Reads (Ok t) reading = reading ≡ Ok (task-view kind-meaning t)
 Reads (Err f) reading = reading ≡ Err f
+
+-- The records of a plan's bytes, at most n of them: each has 24 bytes, and a shorter rest is the last.
+abbrev pub records : ℕ → List ℕ → List (List ℕ)
+records zero bs = []
+records (suc n) [] = []
+records (suc n) (b ∷ bs) = take 24 (b ∷ bs) ∷ records n (drop 24 (b ∷ bs))
+
+-- All records are added in order; the first refusal is the answer.
+abbrev pub add-next : Result (List TaskView) Fault → List ℕ → Result (List TaskView) Fault
+add-next (Ok ts) r = adding ts (read-record (length ts + 1) r)
+add-next (Err f) r = Err f
+
+abbrev pub add-records : Result (List TaskView) Fault → List (List ℕ) → Result (List TaskView) Fault
+add-records so-far [] = so-far
+add-records so-far (r ∷ rs) = add-records (add-next so-far r) rs
+
+-- The tasks of a plan's bytes. Nine records are enough to tell: a plan has at most eight tasks.
+abbrev pub read-plan : List ℕ → Result (List TaskView) Fault
+read-plan bs = add-records (Ok []) (records 9 bs)
+
+abbrev pub Reads-plan : Result (Plan (Either Periodic Sporadic)) Fault → Result (List TaskView) Fault → Type 0
+Reads-plan (Ok p) reading = reading ≡ Ok (task-views kind-meaning (p .tasks))
+Reads-plan (Err f) reading = reading ≡ Err f

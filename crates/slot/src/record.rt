@@ -8,7 +8,7 @@ ghost use Rattle.std.specs.Vec.{refused};
 ghost use Rattle.slot.specs.Tasks.{task-view, task-views};
 ghost use Rattle.slot.specs.Fields.{parameter-offset};
 ghost use Rattle.slot.specs.Adding.{Added};
-ghost use Rattle.slot.specs.Record.{kind-meaning, letter-of, word as word-at, stream-fault, stream-meaning, first-nonzero, read-record, Reads};
+ghost use Rattle.slot.specs.Record.{kind-meaning, letter-of, word as word-at, stream-fault, stream-meaning, first-nonzero, read-record, Reads, read-plan, Reads-plan};
 use crate::plan::Plan;
 use crate::plan::Task;
 use crate::plan::Times;
@@ -123,5 +123,19 @@ impl Plan<Kind> {
     {
         let task = read(bytes, self.count() as u32 + 1)?;
         self.put(task)
+    }
+
+    // The plan of all records in these bytes, each of 24 bytes and a shorter rest the last, or the first refusal.
+    pub fn from_bytes(bytes: &[u8]) -> Result<Plan<Kind>, Fault>
+        ensures { λ r. ⌜ Reads-plan r (read-plan (now (bytes .entry))) ⌝ }
+    {
+        let mut plan = Plan::new();
+        let mut at = 0;
+        while at < bytes.len() {
+            let end = bytes.len().min(at + 24);
+            plan.add_record(&bytes[at..end])?;
+            at = end;
+        }
+        Ok(plan)
     }
 }

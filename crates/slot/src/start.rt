@@ -1,6 +1,5 @@
-// The start state, and whether two states are one.
+// The start state.
 ghost use mathlib.Core.Path.{_≡_};
-ghost use Rattle.std.specs.Orderings.{Decides};
 ghost use Rattle.slot.specs.Tasks.{task-views};
 ghost use Rattle.slot.specs.Slot.{state-view, start-state};
 use crate::plan::Plan;
@@ -20,32 +19,4 @@ pub fn start<S: Stream>(plan: &Plan<S>) -> State
         tasks[i] = TaskState { position: task.stream.first(), job: None };
     }
     State { tasks, last: 0 }
-}
-
-// Whether two states are one.
-pub fn same(a: &State, b: &State) -> bool
-    ensures { λ r. ⌜ Decides r (state-view (now (a .entry)) ≡ state-view (now (b .entry))) ⌝ }
-{
-    if a.last != b.last {
-        return false;
-    }
-    for i in 0..8 {
-        if !alike(a.tasks[i], b.tasks[i]) {
-            return false;
-        }
-    }
-    true
-}
-
-fn alike(a: TaskState, b: TaskState) -> bool
-    ensures { λ r. ⌜ Decides r (a ≡ b) ⌝ }
-{
-    if a.position != b.position {
-        return false;
-    }
-    match (a.job, b.job) {
-        (Some(j), Some(k)) => j.work == k.work && j.age == k.age,
-        (None, None) => true,
-        _ => false,
-    }
 }

@@ -5,7 +5,7 @@ ghost use mathlib.Core.Bool.{true};
 ghost use Rattle.slot.specs.Bounded.{bounded};
 
 // A job that arrived and has not ended: the slots of work done, and its age in slots.
-#[derive(Clone, Copy)]
+#[derive(Clone, Copy, PartialEq, Eq, Debug)]
 pub struct Job {
     pub work: u16,
     pub age: u16,
