@@ -1,17 +1,16 @@
 -- What a kind of stream owes of its places, and what then holds of its stream. Assumes nothing.
-use mathlib.Core.Path.{_≡_, refl, sym, ap, _∙_}
-use mathlib.Core.Bool.{Bool, true, false, cond}
+use mathlib.Core.Path.{_≡_, refl, ap, _∙_}
+use mathlib.Core.Bool.{Bool, true}
 use mathlib.Core.List.{List, [], _∷_, _++_}
-use mathlib.Core.Logic.{_⊎_, inl, inr}
-use Prim.Native.Nat.{ℕ, _≤_, _<_}
+use mathlib.Core.Logic.{inl, inr}
+use Prim.Native.Nat.{ℕ, zero, suc, _≤_, _<_}
 use native.Mathlib.Omega.{arith}
-use lib.Dec.{eqb}
-use borrow.Author.Tests.{ne-eqb}
 use Rattle.std.proofs.shelf.Tests.{cases-bool}
-use Rattle.streams.specs.Meaning.{Meaning, IsRun, pattern, after, Reached, Silent, Sound}
-use Rattle.streams.specs.Places.{Arrival, none, may, must, ways-of, falls, Places, position, answer-at, coded, One-to-one}
-use Rattle.streams.specs.Rule.{Begins, Shown, Allowed, Admits}
-use Rattle.streams.proofs.Places.{Allows, falls-allowed, Follows, Shows, ends, begun, endless, endless-follows, endless-begins, run-shows, run-ends, Run, run-of}
+use Rattle.streams.specs.Meaning.{Reached, Sound}
+use Rattle.streams.specs.Places.{ways-of, falls, Places, position, coded, One-to-one}
+use Rattle.streams.specs.Rule.{Admits}
+use Rattle.streams.proofs.Arrivals.{Allows, falls-allowed, some-of, few-of, absent-of}
+use Rattle.streams.proofs.Places.{at, Follows, Shows, ends, begun, endless, endless-follows, endless-begins, run-shows, run-ends, run-of}
 
 -- some list of arrivals leads to the place
 pub record Comes {P : Type 0} (k : Places P) (q : P) : Type 0 where
@@ -19,7 +18,7 @@ pub record Comes {P : Type 0} (k : Places P) (q : P) : Type 0 where
   pub shown : Shows k (k .start) by
   pub there : ends k (k .start) by ≡ q
 
-pub comes-first : {P : Type 0} (k : Places P) (q : P) → k .start ≡ q → Comes k q
+comes-first : {P : Type 0} (k : Places P) (q : P) → k .start ≡ q → Comes k q
 comes-first k q e = record { by = []; shown = tt; there = e }
 
 shows-more : {P : Type 0} (k : Places P) (bs : List Bool) (q : P) (b : Bool) → Shows k q bs → Allows (k .arrival (ends k q bs)) b →
@@ -38,6 +37,18 @@ comes-next k q r b e a c = record {
   there = ends-more k (c .by) (k .start) b ∙ ap (λ x. k .next x b) (c .there) ∙ e;
 }
 
+-- a sequence that is followed leads to each place that it goes through, and one that takes way 0 in every slot is followed
+comes-at : {P : Type 0} (k : Places P) (s : ℕ → Bool) → Follows k (k .start) s → (n : ℕ) → Comes k (at k (k .start) s n)
+comes-at k s f zero = comes-first k (k .start) refl
+comes-at k s f (suc n) = comes-next k (at k (k .start) s n) (at k (k .start) s (suc n)) (s n) refl (f n) (comes-at k s f n)
+
+abbrev pub idle : {P : Type 0} → Places P → ℕ → Bool
+idle k = endless k (k .start) []
+
+pub comes-idle : {P : Type 0} (k : Places P) (n : ℕ) (q : P) → at k (k .start) (idle k) n ≡ q → Comes k q
+comes-idle k n q e = rw e at (comes-at k (idle k) (endless-follows k [] (k .start) tt) n)
+
+-- the places stay places and have their numbers, runs come to each, and the sequences that they follow are those of the rule
 pub record Kind {P : Type 0} (k : Places P) (rule : (ℕ → Bool) → Type 0) : Type 0 where
   pub begins : k .is-place (k .start) ≡ true
   pub stays : (q : P) (b : Bool) → k .is-place q ≡ true → Allows (k .arrival q) b → k .is-place (k .next q b) ≡ true
@@ -46,21 +57,6 @@ pub record Kind {P : Type 0} (k : Places P) (rule : (ℕ → Bool) → Type 0) :
   pub comes : (q : P) → k .is-place q ≡ true → Comes k q
   pub keeps : (s : ℕ → Bool) → Follows k (k .start) s → rule s
   pub follows : (s : ℕ → Bool) → rule s → Follows k (k .start) s
-
-some-of : (e : Arrival) → 1 ≤ ways-of e
-some-of none = omega arith
-some-of may = omega arith
-some-of must = omega arith
-
-few-of : (e : Arrival) → ways-of e ≤ 4
-few-of none = omega arith
-few-of may = omega arith
-few-of must = omega arith
-
-absent-of : (e : Arrival) (w : ℕ) → ways-of e ≤ w → falls e w ≡ falls e 0
-absent-of none w h = refl
-absent-of may w h = ne-eqb w 1 (λ z. omega arith)
-absent-of must w h = refl
 
 module _ {P : Type 0} {k : Places P} {rule : (ℕ → Bool) → Type 0} (kind : Kind k rule) where
   pub admits : Admits (coded k) rule

@@ -1,34 +1,32 @@
 -- The places of kind P: each has its number, and some run comes to it. Assumes nothing.
-use mathlib.Core.Path.{_≡_, refl, sym, ap, _∙_}
-use mathlib.Core.Logic.{_⊎_, inl, inr}
-use mathlib.Core.Bool.{Bool, true, false, cond, _&&_, _||_}
-use Prim.Native.Nat.{ℕ, zero, suc, _+_, _-_, _*_, _≤_, _<_}
+use mathlib.Core.Path.{_≡_, refl, ap, _∙_}
+use mathlib.Core.Logic.{inl, inr}
+use mathlib.Core.Bool.{Bool, true, false, _||_}
+use Prim.Native.Nat.{ℕ, zero, suc, _+_, _-_, _≤_, _<_}
 use native.Mathlib.Omega.{arith}
 use native.Mathlib.Numerals.{add-one}
 use lib.Dec.{ltb, leb, eqb}
-use Rattle.std.proofs.shelf.Tests.{cases-bool, cases-lt, cases-eq, both-ways, leb-true, lt-ltb, le-ltb, le-leb, eq-eqb, ne-eqb, and-parts, ltb-true}
+use Rattle.std.proofs.shelf.Tests.{cases-bool, both-ways, leb-true, lt-ltb, ne-eqb, and-parts, ltb-true}
 use Rattle.std.proofs.shelf.Ways.{tells}
 use Rattle.streams.specs.Parameters.{slot-limit}
-use Rattle.streams.specs.Places.{Arrival, none, may, must, Places, position}
+use Rattle.streams.specs.Places.{Places}
 use Rattle.streams.specs.Periodic.{Place, before, phase, start, is-place, arrival, next, number, place, periodic-places}
-use Rattle.streams.proofs.Places.{Allows}
-use Rattle.streams.proofs.Kind.{Comes, comes-first, comes-next}
+use Rattle.streams.proofs.Arrivals.{Allows}
+use Rattle.streams.proofs.Kind.{Comes, comes-next, idle, comes-idle}
+use Rattle.streams.proofs.PeriodicSlots.{counting, at-offset}
 
 module _ (p j o : ℕ) (hj : j < p) where
   abbrev k : Places Place
   k = periodic-places p j o
 
   pub begins : is-place p j o (start o) ≡ true
-  begins = elim (cases-bool (eqb o 0)) [ inl e ↦ rw e (le-leb 0 j (omega arith)) | inr e ↦ rw e (grind (arith, tells)) ]
+  begins = grind (arith, tells)
 
   pub stays : (q : Place) (b : Bool) → is-place p j o q ≡ true → Allows (arrival j q) b → is-place p j o (next p q b) ≡ true
-  stays (before c) b v a = elim (cases-bool (eqb c 1)) [ inl e ↦ rw e (le-leb 0 j (omega arith)) | inr e ↦ rw e (grind (arith, tells)) ]
-  stays (phase f true) b v a = elim (cases-bool (eqb (f + 1) p)) [ inl e ↦ rw e (le-leb 0 j (omega arith)) | inr e ↦ rw e (grind (arith, tells)) ]
-  stays (phase f false) true v a = elim (cases-bool (eqb (f + 1) p)) [ inl e ↦ rw e (le-leb 0 j (omega arith)) | inr e ↦ rw e (grind (arith, tells)) ]
-  stays (phase f false) false v a = elim (cases-lt f j) [
-    | inl h ↦ let ne : eqb (f + 1) p ≡ false = ne-eqb (f + 1) p (λ z. omega arith) in rw ne (le-leb (f + 1) j (omega arith))
-    | inr h ↦ elim (both-ways false refl (rw (le-ltb f j h) at a)) [ ]
-  ]
+  stays (before c) b v a = grind (arith, tells)
+  stays (phase f true) b v a = grind (arith, tells)
+  stays (phase f false) true v a = grind (arith, tells)
+  stays (phase f false) false v a = grind (arith, tells)
 
   pub place-of : (q : Place) → is-place p j o q ≡ true → place p (number p q) ≡ q
   place-of (before c) v = grind (arith, tells)
@@ -36,34 +34,15 @@ module _ (p j o : ℕ) (hj : j < p) where
   place-of (phase f false) v = grind (arith, tells)
 
   pub number-of : (n : ℕ) → is-place p j o (place p n) ≡ true → number p (place p n) ≡ n
-  number-of n v = elim (cases-lt n p) [
-    | inl h ↦ rw (lt-ltb n p h) refl
-    | inr h ↦ elim (cases-lt n (2 * p)) [
-      | inl h′ ↦ rw (le-ltb n p h, lt-ltb n (2 * p) h′) (omega arith)
-      | inr h′ ↦ rw (le-ltb n p h, le-ltb n (2 * p) h′) (omega arith)
-    ]
-  ]
+  number-of n v = grind (arith, tells)
 
   pub small : p ≤ slot-limit → o ≤ slot-limit → (q : Place) → is-place p j o q ≡ true → number p q < 65536
   small hp ho (before c) v = grind (arith, tells)
   small hp ho (phase f true) v = grind (arith, tells)
   small hp ho (phase f false) v = grind (arith, tells)
 
-  comes-before : (d : ℕ) → d < o → Comes k (before (o - d))
-  comes-before zero h =
-      let e : eqb o 0 ≡ false = ne-eqb o 0 (λ z. omega arith) in
-      comes-first k (before (o - 0)) (rw e (ap before (omega arith)))
-  comes-before (suc d) h =
-      let e : eqb (o - d) 1 ≡ false = ne-eqb (o - d) 1 (λ z. omega arith) in
-      comes-next k (before (o - d)) (before (o - suc d)) false (rw e (ap before (omega arith))) refl (comes-before d (omega arith))
-
   comes-zero : Comes k (phase 0 false)
-  comes-zero = elim (cases-eq o 0) [
-    | inl e ↦ comes-first k (phase 0 false) (rw (eq-eqb o 0 e) refl)
-    | inr e ↦
-        let c : ℕ = o - (o - 1) in
-        comes-next k (before c) (phase 0 false) false (rw (eq-eqb c 1 (omega arith)) refl) refl (comes-before (o - 1) (omega arith))
-  ]
+  comes-zero = comes-idle k o (phase 0 false) (at-offset p j o hj (idle k))
 
   comes-phase : (f : ℕ) (m b : Bool) → f + 1 < p → Allows (arrival j (phase f m)) b → Comes k (phase f m) → Comes k (phase (suc f) (m || b))
   comes-phase f m b h =
@@ -83,8 +62,9 @@ module _ (p j o : ℕ) (hj : j < p) where
   pub comes : (q : Place) → is-place p j o q ≡ true → Comes k q
   comes (before c) v =
       let h = and-parts (leb 1 c) (leb c o) v in
+      let l : o - c < o = omega (arith, leb-true 1 c (h .0), leb-true c o (h .1)) in
       let z : o - (o - c) ≡ c = omega (arith, leb-true c o (h .1)) in
-      rw z at (comes-before (o - c) (omega (arith, leb-true 1 c (h .0), leb-true c o (h .1))))
+      comes-idle k (o - c) (before c) (counting p j o hj (idle k) (o - c) l ∙ ap before z)
   comes (phase f false) v = comes-unmarked f (leb-true f j v)
   comes (phase zero true) v = elim (both-ways false refl v) [ ]
   comes (phase (suc f) true) v = comes-marked f (ltb-true (suc f) p (and-parts (leb 1 (suc f)) (ltb (suc f) p) v .1))

@@ -1,13 +1,14 @@
 -- The sequences that the places of kind P follow are those that keep its rule. Assumes nothing.
-use mathlib.Core.Path.{_≡_, refl, sym, ap, _∙_}
-use mathlib.Core.Logic.{_⊎_, inl, inr}
+use mathlib.Core.Path.{_≡_, sym, ap, _∙_}
+use mathlib.Core.Logic.{inl, inr}
 use mathlib.Core.Bool.{Bool, true, false}
 use Prim.Native.Nat.{ℕ, _+_, _*_, _%_, _≤_, _<_}
 use native.Mathlib.Omega.{arith}
 use lib.Arith.{digits-mod}
 use Rattle.std.proofs.shelf.Tests.{cases-bool, cases-lt, cases-order, both-ways, lt-ltb, le-ltb}
 use Rattle.streams.specs.Periodic.{Periodic-rule, phase, start, arrival, periodic-places}
-use Rattle.streams.proofs.Places.{Allows, Follows}
+use Rattle.streams.proofs.Arrivals.{Allows}
+use Rattle.streams.proofs.Places.{Follows}
 use Rattle.streams.proofs.Kind.{Kind}
 use Rattle.streams.proofs.PeriodicPlaces.{begins, stays, place-of, number-of, comes}
 use Rattle.streams.proofs.PeriodicSlots.{seen, seen-from, seen-some, counting, slot, split}

@@ -1,7 +1,7 @@
 -- Kind P slot by slot: where the stream stands in each slot of each period. Assumes nothing.
 use mathlib.Core.Path.{_≡_, refl, sym, ap, _∙_}
-use mathlib.Core.Logic.{_⊎_, inl, inr}
-use mathlib.Core.Bool.{Bool, true, false, cond, _||_}
+use mathlib.Core.Logic.{inl, inr}
+use mathlib.Core.Bool.{Bool, true, false, _||_}
 use Prim.Native.Nat.{ℕ, zero, suc, _+_, _-_, _*_, _/_, _%_, _≤_, _<_}
 use native.Mathlib.Omega.{arith}
 use native.Mathlib.Numerals.{add-one}
@@ -9,7 +9,6 @@ use native.Mathlib.Nat.{add-suc, add-zero, suc-mul, mod-lt, div-add-mod'}
 use lib.Dec.{eqb}
 use Rattle.std.proofs.shelf.Tests.{cases-bool, cases-eq, both-ways, eq-eqb, ne-eqb, or-left, or-right}
 use Rattle.std.proofs.shelf.Ways.{tells}
-use Rattle.streams.specs.Places.{Places}
 use Rattle.streams.specs.Periodic.{Place, before, phase, start, next, periodic-places}
 use Rattle.streams.proofs.Places.{at}
 
@@ -42,7 +41,7 @@ module _ (p j o : ℕ) (hj : j < p) where
       let e : eqb (o - n) 1 ≡ false = ne-eqb (o - n) 1 (λ z. omega arith) in
       ap (λ q. next p q (s n)) (counting s n (omega arith)) ∙ rw e (ap before (omega arith))
 
-  at-offset : (s : ℕ → Bool) → from s o ≡ phase 0 false
+  pub at-offset : (s : ℕ → Bool) → from s o ≡ phase 0 false
   at-offset s = elim (cases-eq o 0) [
     | inl e ↦ rw e refl
     | inr e ↦
@@ -67,7 +66,7 @@ module _ (p j o : ℕ) (hj : j < p) where
       let y : eqb (i + 1) p ≡ true = eq-eqb (i + 1) p (omega arith) in
       rw e (ap (λ q. next p q (s (a + i))) (in-period s a i (period-begins s k) (omega arith)) ∙ rw y refl)
 
-  -- what slot i of period k may bring
+  -- where the stream stands in slot i of period k
   pub slot : (s : ℕ → Bool) (k i : ℕ) → i < p → from s (o + k * p + i) ≡ phase i (seen s (o + k * p) i)
   slot s k i h = in-period s (o + k * p) i (period-begins s k) h
 

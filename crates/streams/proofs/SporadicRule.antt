@@ -1,13 +1,14 @@
 -- The sequences that the places of kind S follow are those that keep its rule. Assumes nothing.
 use mathlib.Core.Path.{_≡_}
-use mathlib.Core.Logic.{_⊎_, inl, inr}
+use mathlib.Core.Logic.{inl, inr}
 use mathlib.Core.Bool.{Bool, true, false}
 use Prim.Native.Nat.{ℕ, zero, suc, _+_, _-_, _≤_, _<_}
 use native.Mathlib.Omega.{arith}
 use lib.Dec.{eqb}
 use Rattle.std.proofs.shelf.Tests.{cases-bool, cases-lt, cases-eq, both-ways, lt-ltb, le-ltb, le-leb, eq-eqb, ne-eqb}
 use Rattle.streams.specs.Sporadic.{Sporadic-rule, Place, count, gap, arrival, next, sporadic-places}
-use Rattle.streams.proofs.Places.{Allows, Follows}
+use Rattle.streams.proofs.Arrivals.{Allows}
+use Rattle.streams.proofs.Places.{Follows}
 use Rattle.streams.proofs.Kind.{Kind}
 use Rattle.streams.proofs.SporadicPlaces.{stays, place-of, number-of, comes}
 use Rattle.streams.proofs.SporadicSlots.{from, counting, restarts, upcoming}

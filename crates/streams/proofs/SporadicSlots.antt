@@ -1,14 +1,15 @@
 -- Kind S slot by slot: the countdown, and how far the next arrival is. Assumes nothing.
 use mathlib.Core.Path.{_≡_, refl, ap, _∙_}
-use mathlib.Core.Logic.{_⊎_, inl, inr}
+use mathlib.Core.Logic.{inl, inr}
 use mathlib.Core.Bool.{Bool, true, false}
 use Prim.Native.Nat.{ℕ, zero, suc, _+_, _-_, _≤_, _<_}
 use native.Mathlib.Omega.{arith}
 use lib.Dec.{eqb}
-use Rattle.std.proofs.shelf.Tests.{cases-bool, cases-lt, cases-eq, both-ways, lt-ltb, ne-eqb}
+use Rattle.std.proofs.shelf.Tests.{cases-bool, cases-eq, ne-eqb}
+use Rattle.std.proofs.shelf.Ways.{tells}
 use Rattle.streams.specs.Sporadic.{Place, count, gap, arrival, next, sporadic-places}
-use Rattle.streams.proofs.Places.{Allows, at, Follows}
-use Rattle.streams.proofs.SporadicPlaces.{in-time}
+use Rattle.streams.proofs.Arrivals.{Allows}
+use Rattle.streams.proofs.Places.{at, Follows}
 
 module _ (a b o : ℕ) (ha : 1 ≤ a) (hb : a ≤ b) where
   abbrev pub from : (ℕ → Bool) → ℕ → Place
@@ -20,19 +21,17 @@ module _ (a b o : ℕ) (ha : 1 ≤ a) (hb : a ≤ b) where
       let e : eqb (o - n) 0 ≡ false = ne-eqb (o - n) 0 (λ z. omega arith) in
       ap (λ q. next q (s n)) (counting s n (omega arith)) ∙ rw e (ap count (omega arith))
 
+  -- b slots after the last arrival there is one
+  in-time : (g : ℕ) → Allows (arrival a b (gap g)) false → g < b
+  in-time g h = grind (arith, tells)
+
   -- an arrival comes no sooner than a slots after the last one
   late-enough : (g : ℕ) → Allows (arrival a b (gap g)) true → a ≤ g
-  late-enough g h = elim (cases-lt g a) [
-    | inl l ↦ elim (both-ways true (rw (lt-ltb g a l) at h) refl) [ ]
-    | inr l ↦ l
-  ]
+  late-enough g h = grind (arith, tells)
 
   -- after an arrival the gap is 1
   pub restarts : (q : Place) → Allows (arrival a b q) true → next q true ≡ gap 1
-  restarts (count c) h = elim (cases-bool (eqb c 0)) [
-    | inl e ↦ rw e refl
-    | inr e ↦ elim (both-ways true (rw e at h) refl) [ ]
-  ]
+  restarts (count c) h = grind (arith, tells)
   restarts (gap g) h = refl
 
   -- in a sequence that is followed
@@ -77,7 +76,7 @@ module _ (a b o : ℕ) (ha : 1 ≤ a) (hb : a ≤ b) where
     upcoming zero x g h q = at-once x g (omega arith) q (elim (cases-bool (s x)) [
       | inl y ↦ y
       | inr y ↦
-          let l = in-time a b o ha hb g (rw (q, y) at (f x)) in
+          let l = in-time g (rw (q, y) at (f x)) in
           elim (let no : ⊥ = omega arith in no) [ ]
     ])
     upcoming (suc e) x g h q = elim (cases-bool (s x)) [
