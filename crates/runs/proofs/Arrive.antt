@@ -23,11 +23,13 @@ use Rattle.slot.specs.declared.state.Job.{Job}
 use Rattle.slot.specs.declared.state.TaskState.{TaskState}
 use Rattle.slot.specs.Arrivals.{choices, arrived, overlapping}
 use Rattle.slot.specs.Tasks.{TaskView}
-use Rattle.slot.specs.Slot.{StateView, OutcomeView, void, late, next, slot, runner-after, start-state}
+use Rattle.outcome.specs.declared.Outcome.{Outcome}
+use Rattle.outcome.specs.declared.Outcome.the-variants.{Void as void, Late as late, Next as next}
+use Rattle.slot.specs.Slot.{StateView, slot, runner-after, start-state}
 use Rattle.slot.specs.Work.{sees, serve-all, serve, serve-job}
 use Rattle.runs.specs.Arrivals.{arrivals-of, Arrivals-law}
 use Rattle.runs.specs.Run.{arrives, Ending, ends-in, ends-late, RunFrom, empty, last-late, way-then, Run, Proper, Is-task}
-use Rattle.runs.specs.Work.{Late, Chosen}
+use Rattle.runs.specs.Work.{Is-late, Chosen}
 use Rattle.slot.specs.Slot.{event}
 use Rattle.slot.specs.declared.event.Event.{Event}
 use Rattle.runs.proofs.Invert.{mix, come-to, chosen, stays, over, round, Onward, next-went, event-arrivals, not-void, not-void-stay}
@@ -162,7 +164,7 @@ module _ (ds : List TaskView) (picks : Picks) where
     pub b-shows : (k : ℕ) (d : TaskView) → Is-task ds k d → (s : TaskState) → nth (m .tasks) (k - 1) ≡ Some s →
       arrivals-of b-trace k ≡ pattern (d .stream) (s .position) (take (length b-trace) (choice k))
     pub b-obeys : Obeys ds picks wish i m b-ways
-    pub b-long : (length b-trace ≡ n) ⊎ (Late b-end × (length b-trace < n))
+    pub b-long : (length b-trace ≡ n) ⊎ (Is-late b-end × (length b-trace < n))
 
   module _ (wish : Bool) (m : StateView) (choice : ℕ → List ℕ) (n : ℕ) (ready : Ready m choice (suc n)) where
     abbrev heads : ℕ → ℕ
@@ -230,7 +232,7 @@ module _ (ds : List TaskView) (picks : Picks) where
     build zero i m choice ready = record { b-ways = []; b-trace = []; b-end = ends-in m; b-goes = empty; b-shows = λ k d t s hs. refl; b-obeys = tt; b-long = inl refl }
     build (suc n) i m choice ready = go (λ m′ r. build n (i + 1) m′ (λ k. tl (choice k)) r) (slot ds picks m (way (wish i) m choice n ready)) refl
       where
-        go : ((m′ : StateView) → Ready m′ (λ k. tl (choice k)) n → Built wish (i + 1) m′ (λ k. tl (choice k)) n) → (r : OutcomeView) → slot ds picks m (way (wish i) m choice n ready) ≡ r →
+        go : ((m′ : StateView) → Ready m′ (λ k. tl (choice k)) n → Built wish (i + 1) m′ (λ k. tl (choice k)) n) → (r : Outcome StateView) → slot ds picks m (way (wish i) m choice n ready) ≡ r →
           Built wish i m choice (suc n)
         go onward void h = elim (wished-open ds picks m (base (wish i) m choice n ready) (bounded (wish i) m choice n ready) (wish i) h) [ ]
         go onward (late k c e) h = record {

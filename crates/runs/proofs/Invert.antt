@@ -19,14 +19,16 @@ use Rattle.slot.specs.declared.state.TaskState.{TaskState}
 use Rattle.slot.specs.Arrivals.{choices, arrived, overlapping}
 use Rattle.slot.specs.Tasks.{TaskView}
 use Rattle.slot.specs.declared.work.Round.{Round}
-use Rattle.slot.specs.Slot.{StateView, OutcomeView, void, late, next, slot, runner-after, settled}
+use Rattle.outcome.specs.declared.Outcome.{Outcome}
+use Rattle.outcome.specs.declared.Outcome.the-variants.{Void as void, Late as late, Next as next}
+use Rattle.slot.specs.Slot.{StateView, slot, runner-after, settled}
 use Rattle.slot.specs.Work.{sees, serve-all}
 use Rattle.slot.specs.Arrivals.{arrivals-in}
 use Rattle.slot.specs.Slot.{event, ended-in}
 use Rattle.slot.specs.declared.event.Event.{Event}
 
 -- the tests of a slot, as variables
-abbrev whole : Bool → Bool → Bool → Bool → Bool → ℕ → ℕ → StateView → Option Ended → OutcomeView
+abbrev whole : Bool → Bool → Bool → Bool → Bool → ℕ → ℕ → StateView → Option Ended → Outcome StateView
 whole fits clear stay may timely over tardy m e =
     cond fits (cond clear (cond (stay && not may) void (cond timely (next m e) (late tardy Deadline e))) (cond stay void (late over Overlap None))) void
 

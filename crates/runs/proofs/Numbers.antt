@@ -22,7 +22,9 @@ use Rattle.slot.specs.declared.state.Job.{Job}
 use Rattle.slot.specs.declared.state.TaskState.{TaskState}
 use Rattle.slot.specs.Arrivals.{choices, arrived, overlapping}
 use Rattle.slot.specs.Tasks.{TaskView}
-use Rattle.slot.specs.Slot.{StateView, OutcomeView, void, late, next, slot}
+use Rattle.outcome.specs.declared.Outcome.{Outcome}
+use Rattle.outcome.specs.declared.Outcome.the-variants.{Void as void, Late as late, Next as next}
+use Rattle.slot.specs.Slot.{StateView, slot}
 use Rattle.slot.specs.Work.{sees, serve-all, serve, serve-job}
 use Rattle.runs.proofs.Releases.{given, overlap-is}
 use Rattle.runs.specs.Numbering.{Chooses, Numbered, Numbering-law}
@@ -89,7 +91,7 @@ module _ (ds : List TaskView) (picks : Picks) (proper : Proper ds) (m : StateVie
     abbrev Kind : Type 0
     Kind = Clear ds picks m w (f n) ⊎ ((k : ℕ) × (c : Cause) × Crossed ds picks m w (f n) k c)
 
-    kind-of : (r : OutcomeView) → slot ds picks m w ≡ r → Kind
+    kind-of : (r : Outcome StateView) → slot ds picks m w ≡ r → Kind
     kind-of void h = elim (not-void ds picks m w bounded h) [ ]
     kind-of (late k c e) h =
         elim (late-went ds picks m w k c e h) [

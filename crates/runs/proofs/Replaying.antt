@@ -13,7 +13,8 @@ use Rattle.outcome.specs.declared.Cause.{Cause}
 use Rattle.outcome.specs.declared.Ended.{Ended}
 use Rattle.slot.specs.declared.event.Event.{Event}
 use Rattle.slot.specs.Tasks.{TaskView}
-use Rattle.slot.specs.Slot.{StateView, late, next, slot, event}
+use Rattle.outcome.specs.declared.Outcome.the-variants.{Late as late, Next as next}
+use Rattle.slot.specs.Slot.{StateView, slot, event}
 use Rattle.runs.specs.Run.{Ending, ends-in, ends-late, RunFrom, empty, last-late, way-then}
 
 module _ (ts : List TaskView) (picks : Picks) where

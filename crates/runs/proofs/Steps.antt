@@ -18,7 +18,9 @@ use Rattle.outcome.specs.declared.Cause.{Cause}
 use Rattle.slot.specs.declared.state.Job.{Job}
 use Rattle.slot.specs.declared.state.TaskState.{TaskState}
 use Rattle.slot.specs.Tasks.{TaskView}
-use Rattle.slot.specs.Slot.{StateView, OutcomeView, void, late, next, slot, start-state}
+use Rattle.outcome.specs.declared.Outcome.{Outcome}
+use Rattle.outcome.specs.declared.Outcome.the-variants.{Void as void, Late as late, Next as next}
+use Rattle.slot.specs.Slot.{StateView, slot, start-state}
 use Rattle.slot.specs.Work.{serve, serve-job, serve-all}
 use Rattle.runs.proofs.Releases.{given, overlap-is}
 use Rattle.runs.specs.Response.{Responds, Response-law}

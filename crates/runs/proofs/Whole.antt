@@ -18,7 +18,9 @@ use Rattle.outcome.specs.declared.Cause.{Cause}
 use Rattle.slot.specs.declared.state.Job.{Job}
 use Rattle.slot.specs.declared.state.TaskState.{TaskState}
 use Rattle.slot.specs.Tasks.{TaskView}
-use Rattle.slot.specs.Slot.{StateView, OutcomeView, void, late, next, slot, runner-after, start-state}
+use Rattle.outcome.specs.declared.Outcome.{Outcome}
+use Rattle.outcome.specs.declared.Outcome.the-variants.{Void as void, Late as late, Next as next}
+use Rattle.slot.specs.Slot.{StateView, slot, runner-after, start-state}
 use Rattle.slot.specs.Work.{sees, age-of, serve, serve-job, serve-all}
 use Rattle.runs.specs.Dispatch.{Age-as-shown, Seen-as-shown, last-runner, Dispatch-law}
 use Rattle.runs.specs.Lateness.{Unfinished, Job-as-shown, Unfinished-law, Overlaps, Misses-deadline, Smallest, Lateness, Lateness-law}

@@ -8,7 +8,8 @@ use Rattle.dispatch.specs.Picks.{Picks}
 use Rattle.slot.specs.declared.event.Event.{Event}
 use Rattle.slot.specs.Tasks.{TaskView}
 use Rattle.slot.specs.Arrivals.{choices}
-use Rattle.slot.specs.Slot.{StateView, void, slot, event}
+use Rattle.outcome.specs.declared.Outcome.the-variants.{Void}
+use Rattle.slot.specs.Slot.{StateView, slot, event}
 use Rattle.runs.specs.Run.{is-picked, ends-in, Run, event-at, Is-task}
 use Rattle.runs.specs.Pending.{Pending-in}
 use Rattle.runs.specs.Response.{executed}
@@ -27,12 +28,12 @@ pub record Chooses (ts : List TaskView) (f : ℕ → Event) (n : ℕ) : Type 0 w
 -- The streams have A ways together. No number below A is void; A + w, with w below A, is void exactly if the picked job may not
 -- choose in the slot of w; and every number from 2 A on is void.
 pub record Numbered (ts : List TaskView) (picks : Picks) (trace : List Event) (m : StateView) : Type 0 where
-  pub plain : (w : ℕ) → w < choices ts (m .tasks) → slot ts picks m w ≡ void → ⊥
+  pub plain : (w : ℕ) → w < choices ts (m .tasks) → slot ts picks m w ≡ Void → ⊥
   pub stay-if : (w : ℕ) → w < choices ts (m .tasks) → Chooses ts (event-at (trace ++ (event ts picks m w ∷ []))) (length trace) →
-    slot ts picks m (1 * choices ts (m .tasks) + w) ≡ void → ⊥
-  pub stay-then : (w : ℕ) → w < choices ts (m .tasks) → (slot ts picks m (1 * choices ts (m .tasks) + w) ≡ void → ⊥) →
+    slot ts picks m (1 * choices ts (m .tasks) + w) ≡ Void → ⊥
+  pub stay-then : (w : ℕ) → w < choices ts (m .tasks) → (slot ts picks m (1 * choices ts (m .tasks) + w) ≡ Void → ⊥) →
     Chooses ts (event-at (trace ++ (event ts picks m w ∷ []))) (length trace)
-  pub beyond : (w : ℕ) → 2 * choices ts (m .tasks) ≤ w → slot ts picks m w ≡ void
+  pub beyond : (w : ℕ) → 2 * choices ts (m .tasks) ≤ w → slot ts picks m w ≡ Void
 
 abbrev pub Numbering-law : List TaskView → Picks → Type 0
 Numbering-law ts picks = (ways : List ℕ) (trace : List Event) (m : StateView) → Run ts picks ways trace (ends-in m) →

@@ -6,7 +6,8 @@ use lib.ListN.{length, getD, take, drop}
 use Rattle.dispatch.specs.Picks.{Picks}
 use Rattle.slot.specs.declared.event.Event.{Event}
 use Rattle.slot.specs.Tasks.{TaskView}
-use Rattle.slot.specs.Slot.{StateView, void, slot, state-view}
+use Rattle.outcome.specs.declared.Outcome.the-variants.{Void as NoWay}
+use Rattle.slot.specs.Slot.{StateView, slot, state-view}
 use Rattle.runs.specs.declared.Replayed.{Replayed}
 use Rattle.runs.specs.declared.Stop.{Stop}
 use Rattle.runs.specs.declared.Stop.the-variants.{Void, Late, End}
@@ -16,7 +17,7 @@ use Rattle.runs.specs.Run.{ends-in, ends-late, Run}
 -- the ways, or the places for events, came to an end.
 abbrev pub Stopped : List TaskView → Picks → List ℕ → List Event → ℕ → Stop → Type 0
 Stopped ts picks ways trace n Void =
-    (m : StateView) × Run ts picks (take n ways) (take n trace) (ends-in m) × (n < length ways) × (slot ts picks m (getD ways n 0) ≡ void)
+    (m : StateView) × Run ts picks (take n ways) (take n trace) (ends-in m) × (n < length ways) × (slot ts picks m (getD ways n 0) ≡ NoWay)
 Stopped ts picks ways trace n (Late k c) = Run ts picks (take n ways) (take n trace) (ends-late k c)
 Stopped ts picks ways trace n (End s) =
     (n ≡ min (length ways) (length trace)) × Run ts picks (take n ways) (take n trace) (ends-in (state-view s))

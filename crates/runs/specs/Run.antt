@@ -14,7 +14,8 @@ use Rattle.outcome.specs.declared.Cause.{Cause}
 use Rattle.outcome.specs.declared.Ended.{Ended}
 use Rattle.slot.specs.declared.event.Event.{Event}
 use Rattle.slot.specs.Tasks.{TaskView}
-use Rattle.slot.specs.Slot.{StateView, late, next, slot, start-state, event}
+use Rattle.outcome.specs.declared.Outcome.the-variants.{Late, Next}
+use Rattle.slot.specs.Slot.{StateView, slot, start-state, event}
 
 -- Whether task k has an arrival in a slot, whether it is picked, and the response of its job if that ends.
 abbrev pub arrives : Event → ℕ → Bool
@@ -38,10 +39,10 @@ pub data Ending : Type 0 where
 -- From a state, a list of ways, none void and only the last late, shows a trace (what each slot shows) and ends so.
 pub data RunFrom (ts : List TaskView) (picks : Picks) : StateView → List ℕ → List Event → Ending → Type 0 where
   empty : {m : StateView} → RunFrom ts picks m [] [] (ends-in m)
-  last-late : {m : StateView} {way k : ℕ} {c : Cause} {e : Option Ended} → slot ts picks m way ≡ late k c e →
+  last-late : {m : StateView} {way k : ℕ} {c : Cause} {e : Option Ended} → slot ts picks m way ≡ Late k c e →
     RunFrom ts picks m (way ∷ []) (event ts picks m way ∷ []) (ends-late k c)
   way-then : {m m′ : StateView} {way : ℕ} {e : Option Ended} {ways : List ℕ} {trace : List Event} {end : Ending} →
-    slot ts picks m way ≡ next m′ e → RunFrom ts picks m′ ways trace end →
+    slot ts picks m way ≡ Next m′ e → RunFrom ts picks m′ ways trace end →
     RunFrom ts picks m (way ∷ ways) (event ts picks m way ∷ trace) end
 
 -- A run of a plan begins at its start.

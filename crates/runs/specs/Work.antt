@@ -38,9 +38,9 @@ Obeyed ts f stay n = (k : ℕ) (t : TaskView) (a : ℕ) → Is-task ts k t → P
   t .best ≤ executed f k a (n + 1 - a) → executed f k a (n + 1 - a) < t .worst →
   (stay ≡ true → response (f n) k ≡ None) × (stay ≡ false → response (f n) k ≡ Some (n + 1 - a))
 
-abbrev pub Late : Ending → Type 0
-Late (ends-in m) = ⊥
-Late (ends-late k c) = Unit {0}
+abbrev pub Is-late : Ending → Type 0
+Is-late (ends-in m) = ⊥
+Is-late (ends-late k c) = Unit {0}
 
 -- A run that follows the chosen runs of the streams and the wishes, for n slots or until it is late.
 pub record Follows (ts : List TaskView) (picks : Picks) (choice : ℕ → List ℕ) (wish : ℕ → Bool) (n : ℕ) : Type 0 where
@@ -50,7 +50,7 @@ pub record Follows (ts : List TaskView) (picks : Picks) (choice : ℕ → List �
   pub run : Run ts picks ways trace end
   pub shows : (k : ℕ) (t : TaskView) → Is-task ts k t → arrivals-of trace k ≡ pattern (t .stream) (t .stream .first) (take (length trace) (choice k))
   pub obeys : (i : ℕ) → i < length trace → Obeyed ts (event-at trace) (wish i) i
-  pub long : (length trace ≡ n) ⊎ (Late end × (length trace < n))
+  pub long : (length trace ≡ n) ⊎ (Is-late end × (length trace < n))
 
 -- Whatever the streams show and each job chooses comes about in a run.
 abbrev pub Choice-law : List TaskView → Picks → Type 0

@@ -28,17 +28,11 @@ pub record StateView : Type 0 where
 abbrev pub state-view : State → StateView
 state-view s = record { tasks = s .tasks; last = s .last }
 
--- What a way leads to. A void way is no way of the state. A late slot has no next state, but a job that ended in it
--- keeps its response.
-pub data OutcomeView : Type 0 where
-  void : OutcomeView
-  late : ℕ → Cause → Option Ended → OutcomeView
-  next : StateView → Option Ended → OutcomeView
-
-abbrev pub outcome-view : Outcome State → OutcomeView
-outcome-view Void = void
-outcome-view (Late task cause ended) = late task cause ended
-outcome-view (Next state ended) = next (state-view state) ended
+-- An outcome, by the view of its state.
+abbrev pub outcome-view : Outcome State → Outcome StateView
+outcome-view Void = Void
+outcome-view (Late task cause ended) = Late task cause ended
+outcome-view (Next state ended) = Next (state-view state) ended
 
 -- The start: streams at their first positions, with no job, and no last runner; free places stand at 0.
 abbrev pub firsts : List TaskView → List TaskState → List TaskState
@@ -54,15 +48,15 @@ abbrev pub runner-after : ℕ → Option Ended → ℕ
 runner-after pick None = pick
 runner-after pick (Some e) = 0
 
-abbrev pub settled : Bool → ℕ → Round → OutcomeView
+abbrev pub settled : Bool → ℕ → Round → Outcome StateView
 settled stay pick r =
-    cond (stay && not (r .«may_choose»)) void
-    (cond (eqb (r .late) 0) (next (record { tasks = r .tasks; last = runner-after pick (r .ended) }) (r .ended))
-      (late (r .late) Deadline (r .ended)))
+    cond (stay && not (r .«may_choose»)) Void
+    (cond (eqb (r .late) 0) (Next (record { tasks = r .tasks; last = runner-after pick (r .ended) }) (r .ended))
+      (Late (r .late) Deadline (r .ended)))
 
 -- The whole slot, at the way a + A f: the streams take the ways of a, and f = 1 means that the picked job stays where it
 -- may choose.
-abbrev pub slot : List TaskView → Picks → StateView → ℕ → OutcomeView
+abbrev pub slot : List TaskView → Picks → StateView → ℕ → Outcome StateView
 slot ts picks m way =
     let all = choices ts (m .tasks) in
     let a = way % all in
@@ -71,15 +65,15 @@ slot ts picks m way =
     let over = overlapping 1 ts (m .tasks) a in
     let pick = picks (sees ts tasks) (m .last) in
     cond (ltb way (2 * all))
-      (cond (eqb over 0) (settled stay pick (serve-all pick stay 1 ts tasks)) (cond stay void (late over Overlap None)))
-      void
+      (cond (eqb over 0) (settled stay pick (serve-all pick stay 1 ts tasks)) (cond stay Void (Late over Overlap None)))
+      Void
 
 -- What the slot of a way shows: who has an arrival, the task picked (0 for none, and in a slot with an overlap), and the
 -- job that ends.
-abbrev pub ended-in : OutcomeView → Option Ended
-ended-in void = None
-ended-in (late t c e) = e
-ended-in (next m e) = e
+abbrev pub ended-in : Outcome StateView → Option Ended
+ended-in Void = None
+ended-in (Late t c e) = e
+ended-in (Next m e) = e
 
 unfoldable pub event : List TaskView → Picks → StateView → ℕ → Event
 event ts picks m way =
