@@ -36,7 +36,10 @@ pub(crate) fn read_ways(rt: &LibcRuntime, path: &str) -> Result<Vec<u32>, AnyErr
             Ok(way) => ways.push(way)?,
             Err(_) => {
                 let count = ways.len();
-                return Err(format!(rt.alloc(), "{path}: '{word}', after {count} ways, is not a way number")?.into());
+                return Err(format!(
+                    rt.alloc(),
+                    "{path}: '{word}', after {count} ways, is not a way number"
+                )?.into());
             }
         }
     }

@@ -64,12 +64,24 @@ fn by_rule(rt: &LibcRuntime, plan: &Plan<Kind>, ways: &Vec<u32>) -> Result<(), A
     }
 }
 
-fn show<D: Dispatch>(rt: &LibcRuntime, plan: &Plan<Kind>, rule: &D, ways: &Vec<u32>) -> Result<(), AnyError> {
-    let blank = Event { arrivals: [false; 8], picked: 0, ended: None };
+fn show<D: Dispatch>(
+    rt: &LibcRuntime,
+    plan: &Plan<Kind>,
+    rule: &D,
+    ways: &Vec<u32>,
+) -> Result<(), AnyError> {
+    let blank = Event {
+        arrivals: [false; 8],
+        picked: 0,
+        ended: None,
+    };
     let mut trace = vec![in rt.alloc(); blank; ways.len()]?;
     let replayed = replay(plan, rule, ways, &mut trace);
     for (slot, event) in trace.iter().take(replayed.slots).enumerate() {
-        rt.println(SlotLine { slot, event: *event })?;
+        rt.println(SlotLine {
+            slot,
+            event: *event,
+        })?;
     }
     stopped(rt, replayed, ways)?;
     for i in 0..plan.count() {
@@ -108,6 +120,10 @@ fn responses(rt: &LibcRuntime, task: u8, trace: &Vec<Event>, slots: usize) -> Re
             }
         }
     }
-    if some { println!(rt, "")? } else { println!(rt, " none")? }
+    if some {
+        println!(rt, "")?
+    } else {
+        println!(rt, " none")?
+    }
     Ok(())
 }

@@ -32,11 +32,19 @@ fn arrivals<W: fmt::Write>(f: &mut fmt::Formatter<W>, tasks: &[bool; 8]) -> fmt:
             write!(f, " {task}")?;
         }
     }
-    if some { Ok(()) } else { write!(f, "no arrival") }
+    if some {
+        Ok(())
+    } else {
+        write!(f, "no arrival")
+    }
 }
 
 fn ran<W: fmt::Write>(f: &mut fmt::Formatter<W>, picked: u8) -> fmt::Result {
-    if picked == 0 { write!(f, ", none ran") } else { write!(f, ", ran {picked}") }
+    if picked == 0 {
+        write!(f, ", none ran")
+    } else {
+        write!(f, ", ran {picked}")
+    }
 }
 
 fn ended<W: fmt::Write>(f: &mut fmt::Formatter<W>, job: Option<Ended>) -> fmt::Result {

@@ -42,28 +42,31 @@ position-kept picked stay d p None = refl
 position-kept false stay d p (Some j) = refl
 position-kept true stay d p (Some j) =
     elim (cases-bool (leb (d .worst) (j .work + 1))) [
-      inl y ↦ rw y refl
-    | inr y ↦ elim (cases-bool (leb (d .best) (j .work + 1))) [
-        inl z ↦ elim (cases-bool stay) [ inl u ↦ rw (y, z, u) refl | inr u ↦ rw (y, z, u) refl ]
-      | inr z ↦ rw (y, z) refl ] ]
+      | inl y ↦ rw y refl
+      | inr y ↦ elim (cases-bool (leb (d .best) (j .work + 1))) [
+        | inl z ↦ elim (cases-bool stay) [ inl u ↦ rw (y, z, u) refl | inr u ↦ rw (y, z, u) refl ]
+        | inr z ↦ rw (y, z) refl
+      ]
+    ]
 
 module _ (ds : List TaskView) (picks : Picks) (k : ℕ) (d : TaskView) (task : Is-task ds k d) where
   -- the stream stands after a slot where its arrival left it
   pub moved-at : (m m′ : StateView) (way : ℕ) (g : Event) (after : TaskState) → Onward ds picks m way g m′ → nth (come-to ds picks m way) (k - 1) ≡ Some after →
-    (s : TaskState) × (nth (m′ .tasks) (k - 1) ≡ Some s) × (s .position ≡ after .position)
+      (s : TaskState) × (nth (m′ .tasks) (k - 1) ≡ Some s) × (s .position ≡ after .position)
   moved-at m m′ way g after w h =
       let e : k ≡ 1 + (k - 1) = omega (arith, task .from-one) in
-      let p = serve-all-at ds (come-to ds picks m way) (chosen ds picks m way) (stays ds picks m way) 1 (k - 1) k d after e (task .here) h in
-      (serve (eqb k (chosen ds picks m way)) (stays ds picks m way) d after .state,
-       rw (w .tasks-are) p,
-       position-kept (eqb k (chosen ds picks m way)) (stays ds picks m way) d (after .position) (after .job))
+      let p = serve-all-at ds (come-to ds picks m way) (chosen ds picks m way) (stays ds picks m way) 1 (k - 1) k d after e (task .here) h in (
+        serve (eqb k (chosen ds picks m way)) (stays ds picks m way) d after .state,
+        rw (w .tasks-are) p,
+        position-kept (eqb k (chosen ds picks m way)) (stays ds picks m way) d (after .position) (after .job),
+      )
 
   module _ (sound : Sound (d .stream)) where
     abbrev Shown-from : ℕ → List Bool → Type 0
     Shown-from q bs = (ws : List ℕ) × IsRun (d .stream) q ws × (pattern (d .stream) q ws ≡ bs)
 
     pub shown-from : {m : StateView} {ways : List ℕ} {trace : List Event} {end : Ending} → RunFrom ds picks m ways trace end →
-      (s : TaskState) → nth (m .tasks) (k - 1) ≡ Some s → Shown-from (s .position) (arrivals-of trace k)
+        (s : TaskState) → nth (m .tasks) (k - 1) ≡ Some s → Shown-from (s .position) (arrivals-of trace k)
     shown-from empty s hs = ([], tt, refl)
     shown-from (last-late {m = m} {way = way} h) s hs =
         let a = arrived-at ds (m .tasks) (mix ds picks m way) (k - 1) d s (task .here) hs in
@@ -84,7 +87,7 @@ module _ (ds : List TaskView) (picks : Picks) (k : ℕ) (d : TaskView) (task : I
 pub arrivals-stand : (ds : List TaskView) (picks : Picks) → Proper ds → Arrivals-law ds picks
 arrivals-stand ds picks proper ways trace end r k d t =
     shown-from ds picks k d t (proper .sound (k - 1) d (t .here)) r (record { position = d .stream .first; job = None })
-      (firsts-at ds (replicate 8 (record { position = 0; job = None })) (k - 1) d (proper .few) (t .here))
+    (firsts-at ds (replicate 8 (record { position = 0; job = None })) (k - 1) d (proper .few) (t .here))
 
 abbrev hd : List ℕ → ℕ
 hd [] = 0
@@ -108,13 +111,15 @@ module _ (ds : List TaskView) (picks : Picks) (m : StateView) (base : ℕ) (boun
 
   pub wished-mix : mix ds picks m wished ≡ base
   wished-mix = elim (cases-bool want) [
-      inl y ↦ rw y (digits-mod 1 bounded)
-    | inr y ↦ rw y (mod-eq-of-lt bounded) ]
+    | inl y ↦ rw y (digits-mod 1 bounded)
+    | inr y ↦ rw y (mod-eq-of-lt bounded)
+  ]
 
   wished-stays : stays ds picks m wished ≡ want
   wished-stays = elim (cases-bool want) [
-      inl y ↦ let e : (1 * choices ds (m .tasks) + base) / choices ds (m .tasks) ≡ 1 = digits-div 1 bounded in rw y (ap (λ x. eqb x 1) e)
-    | inr y ↦ let e : base / choices ds (m .tasks) ≡ 0 = div-eq-of-lt bounded in rw y (ap (λ x. eqb x 1) e) ]
+    | inl y ↦ let e : (1 * choices ds (m .tasks) + base) / choices ds (m .tasks) ≡ 1 = digits-div 1 bounded in rw y (ap (λ x. eqb x 1) e)
+    | inr y ↦ let e : base / choices ds (m .tasks) ≡ 0 = div-eq-of-lt bounded in rw y (ap (λ x. eqb x 1) e)
+  ]
 
   over-same : over ds picks m wished ≡ over ds picks m base
   over-same = ap (λ a. overlapping 1 ds (m .tasks) a) (wished-mix ∙ sym (mod-eq-of-lt bounded))
@@ -126,14 +131,15 @@ module _ (ds : List TaskView) (picks : Picks) (m : StateView) (base : ℕ) (boun
 
   pub wished-open : slot ds picks m wished ≡ void → ⊥
   wished-open = elim (cases-bool want) [
-      inl y ↦
+    | inl y ↦
         let p = and-parts wish (eqb (over ds picks m base) 0 && round ds picks m base .«may_choose») y in
         let q = and-parts (eqb (over ds picks m base) 0) (round ds picks m base .«may_choose») (p .1) in
         let e : wished ≡ 1 * choices ds (m .tasks) + base = rw y refl in
         not-void-stay ds picks m wished (rw e (omega arith)) (over-same ∙ eqb-true (over ds picks m base) 0 (q .0)) (choose-same ∙ q .1)
     | inr y ↦
         let e : wished ≡ base = rw y refl in
-        not-void ds picks m wished (rw e bounded) ]
+        not-void ds picks m wished (rw e bounded)
+  ]
 
   pub wished-obeys : over ds picks m wished ≡ 0 → round ds picks m wished .«may_choose» ≡ true → stays ds picks m wished ≡ wish
   wished-obeys z c =
@@ -162,7 +168,7 @@ module _ (ds : List TaskView) (picks : Picks) where
     pub b-end : Ending
     pub b-goes : RunFrom ds picks m b-ways b-trace b-end
     pub b-shows : (k : ℕ) (d : TaskView) → Is-task ds k d → (s : TaskState) → nth (m .tasks) (k - 1) ≡ Some s →
-      arrivals-of b-trace k ≡ pattern (d .stream) (s .position) (take (length b-trace) (choice k))
+        arrivals-of b-trace k ≡ pattern (d .stream) (s .position) (take (length b-trace) (choice k))
     pub b-obeys : Obeys ds picks wish i m b-ways
     pub b-long : (length b-trace ≡ n) ⊎ (Is-late b-end × (length b-trace < n))
 
@@ -181,7 +187,7 @@ module _ (ds : List TaskView) (picks : Picks) where
 
     -- at the standing of the task
     runs-on : (k : ℕ) (d : TaskView) → Is-task ds k d → (s : TaskState) → nth (m .tasks) (k - 1) ≡ Some s →
-      IsRun (d .stream) (s .position) (hd (choice k) ∷ tl (choice k))
+        IsRun (d .stream) (s .position) (hd (choice k) ∷ tl (choice k))
     runs-on k d t s hs =
         let r = ready k d t in
         let e : r .0 ≡ s = same (r .0) s (sym (r .1) ∙ hs) in
@@ -204,7 +210,7 @@ module _ (ds : List TaskView) (picks : Picks) where
     way = wished ds picks m base bounded wish
 
     at : (k : ℕ) (d : TaskView) → Is-task ds k d → (s : TaskState) → nth (m .tasks) (k - 1) ≡ Some s →
-      Mixed-at ds (m .tasks) (mix ds picks m way) (k - 1) (hd (choice k)) d s
+        Mixed-at ds (m .tasks) (mix ds picks m way) (k - 1) (hd (choice k)) d s
     at k d t s hs =
         let z : k - 1 + 1 ≡ k = omega (arith, t .from-one) in
         let x = mixed-at ds (m .tasks) heads fits (k - 1) d s (t .here) hs in
@@ -212,7 +218,7 @@ module _ (ds : List TaskView) (picks : Picks) where
         rw (wished-mix ds picks m base bounded wish) x′
 
     shows-now : (k : ℕ) (d : TaskView) → Is-task ds k d → (s : TaskState) → nth (m .tasks) (k - 1) ≡ Some s →
-      arrives (event ds picks m way) k ≡ d .stream .answer (s .position) (hd (choice k)) .0
+        arrives (event ds picks m way) k ≡ d .stream .answer (s .position) (hd (choice k)) .0
     shows-now k d t s hs = ap (λ l. getD l (k - 1) false) (event-arrivals ds picks m way) ∙ at k d t s hs .m-shows
 
     ready-next : (m′ : StateView) (e : Option Ended) → slot ds picks m way ≡ next m′ e → Ready m′ tails n
@@ -233,7 +239,7 @@ module _ (ds : List TaskView) (picks : Picks) where
     build (suc n) i m choice ready = go (λ m′ r. build n (i + 1) m′ (λ k. tl (choice k)) r) (slot ds picks m (way (wish i) m choice n ready)) refl
       where
         go : ((m′ : StateView) → Ready m′ (λ k. tl (choice k)) n → Built wish (i + 1) m′ (λ k. tl (choice k)) n) → (r : Outcome StateView) → slot ds picks m (way (wish i) m choice n ready) ≡ r →
-          Built wish i m choice (suc n)
+            Built wish i m choice (suc n)
         go onward void h = elim (wished-open ds picks m (base (wish i) m choice n ready) (bounded (wish i) m choice n ready) (wish i) h) [ ]
         go onward (late k c e) h = record {
           b-ways = way (wish i) m choice n ready ∷ [];
@@ -253,13 +259,15 @@ module _ (ds : List TaskView) (picks : Picks) where
               b-end = rest .b-end;
               b-goes = way-then h (rest .b-goes);
               b-shows = λ k d t s hs.
-                let x = at (wish i) m choice n ready k d t s hs in
-                let v = moved-at ds picks k d t m m′ (way (wish i) m choice n ready) (event ds picks m (way (wish i) m choice n ready)) (x .after) (next-went ds picks m (way (wish i) m choice n ready) m′ e h) (x .m-nth) in
-                let q : v .0 .position ≡ d .stream .answer (s .position) (hd (choice k)) .1 = v .2 ∙ x .m-position in
-                let more = rw q at (rest .b-shows k d t (v .0) (v .1)) in
-                rw (whole-is (wish i) m choice n ready k d t, shows-now (wish i) m choice n ready k d t s hs, more) refl;
-              b-obeys = (wished-obeys ds picks m (base (wish i) m choice n ready) (bounded (wish i) m choice n ready) (wish i),
-                λ m″ e′ h′. let q : m′ ≡ m″ = same-next m′ m″ e e′ (sym h ∙ h′) in rw (sym q) (rest .b-obeys));
+                  let x = at (wish i) m choice n ready k d t s hs in
+                  let v = moved-at ds picks k d t m m′ (way (wish i) m choice n ready) (event ds picks m (way (wish i) m choice n ready)) (x .after) (next-went ds picks m (way (wish i) m choice n ready) m′ e h) (x .m-nth) in
+                  let q : v .0 .position ≡ d .stream .answer (s .position) (hd (choice k)) .1 = v .2 ∙ x .m-position in
+                  let more = rw q at (rest .b-shows k d t (v .0) (v .1)) in
+                  rw (whole-is (wish i) m choice n ready k d t, shows-now (wish i) m choice n ready k d t s hs, more) refl;
+              b-obeys = (
+                wished-obeys ds picks m (base (wish i) m choice n ready) (bounded (wish i) m choice n ready) (wish i),
+                λ m″ e′ h′. let q : m′ ≡ m″ = same-next m′ m″ e e′ (sym h ∙ h′) in rw (sym q) (rest .b-obeys),
+              );
               b-long = elim (rest .b-long) [ inl z ↦ inl (omega arith) | inr z ↦ inr (z .0, omega (arith, z .1)) ];
             }
 

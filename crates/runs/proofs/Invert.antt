@@ -39,7 +39,7 @@ record Went (clear timely : Bool) (m m′ : StateView) (e e′ : Option Ended) :
   pub w-ended : e ≡ e′
 
 went : (fits clear stay may timely : Bool) (over tardy : ℕ) (m m′ : StateView) (e e′ : Option Ended) →
-  whole fits clear stay may timely over tardy m e ≡ next m′ e′ → Went clear timely m m′ e e′
+    whole fits clear stay may timely over tardy m e ≡ next m′ e′ → Went clear timely m m′ e e′
 went false clear stay may timely over tardy m m′ e e′ h = let z : _≡_ {A = ℕ} 0 1 = cc in elim (let no : ⊥ = omega arith in no) [ ]
 went true false true may timely over tardy m m′ e e′ h = let z : _≡_ {A = ℕ} 0 1 = cc in elim (let no : ⊥ = omega arith in no) [ ]
 went true false false may timely over tardy m m′ e e′ h = let z : _≡_ {A = ℕ} 0 1 = cc in elim (let no : ⊥ = omega arith in no) [ ]
@@ -63,7 +63,7 @@ record Overdue (clear timely : Bool) (tardy k : ℕ) (c : Cause) (e e′ : Optio
   pub d-ended : e ≡ e′
 
 failed : (fits clear stay may timely : Bool) (over tardy k : ℕ) (m : StateView) (c : Cause) (e e′ : Option Ended) →
-  whole fits clear stay may timely over tardy m e ≡ late k c e′ → Overlapped clear over k c e′ ⊎ Overdue clear timely tardy k c e e′
+    whole fits clear stay may timely over tardy m e ≡ late k c e′ → Overlapped clear over k c e′ ⊎ Overdue clear timely tardy k c e e′
 failed false clear stay may timely over tardy k m c e e′ h = let z : _≡_ {A = ℕ} 0 1 = cc in elim (let no : ⊥ = omega arith in no) [ ]
 failed true false true may timely over tardy k m c e e′ h = let z : _≡_ {A = ℕ} 0 1 = cc in elim (let no : ⊥ = omega arith in no) [ ]
 failed true false false may timely over tardy k m c e e′ h = inl (record { o-clear = refl; o-task = cc; o-cause = cc; o-ended = cc })
@@ -75,7 +75,7 @@ failed true true false may false over tardy k m c e e′ h = inr (record { d-cle
 
 -- a way that exists and does not ask to stay is not void
 unvoid : (fits clear stay may timely : Bool) (over tardy : ℕ) (m : StateView) (e : Option Ended) → fits ≡ true → stay ≡ false →
-  whole fits clear stay may timely over tardy m e ≡ void → ⊥
+    whole fits clear stay may timely over tardy m e ≡ void → ⊥
 unvoid fits clear true may timely over tardy m e hf hs h = let z : _≡_ {A = ℕ} 0 1 = cc in omega arith
 unvoid false clear false may timely over tardy m e hf hs h = let z : _≡_ {A = ℕ} 0 1 = cc in omega arith
 unvoid true false false may timely over tardy m e hf hs h = let z : _≡_ {A = ℕ} 0 1 = cc in omega arith
@@ -84,7 +84,7 @@ unvoid true true false may false over tardy m e hf hs h = let z : _≡_ {A = ℕ
 
 -- a way that asks to stay and is not void
 stay-unvoid : (fits clear may timely : Bool) (over tardy : ℕ) (m : StateView) (e : Option Ended) →
-  (whole fits clear true may timely over tardy m e ≡ void → ⊥) → (clear ≡ true) × (may ≡ true)
+    (whole fits clear true may timely over tardy m e ≡ void → ⊥) → (clear ≡ true) × (may ≡ true)
 stay-unvoid false clear may timely over tardy m e h = elim (h refl) [ ]
 stay-unvoid true false may timely over tardy m e h = elim (h refl) [ ]
 stay-unvoid true true false timely over tardy m e h = elim (h refl) [ ]
@@ -92,7 +92,7 @@ stay-unvoid true true true timely over tardy m e h = (refl, refl)
 
 -- and so is one that asks to stay, with no overlap and where it may choose
 unvoid-stay : (fits clear stay may timely : Bool) (over tardy : ℕ) (m : StateView) (e : Option Ended) → fits ≡ true → clear ≡ true → may ≡ true →
-  whole fits clear stay may timely over tardy m e ≡ void → ⊥
+    whole fits clear stay may timely over tardy m e ≡ void → ⊥
 unvoid-stay fits clear stay false timely over tardy m e hf hc hm h = let z : _≡_ {A = ℕ} 0 1 = cc in omega arith
 unvoid-stay fits false stay true timely over tardy m e hf hc hm h = let z : _≡_ {A = ℕ} 0 1 = cc in omega arith
 unvoid-stay false true stay true timely over tardy m e hf hc hm h = let z : _≡_ {A = ℕ} 0 1 = cc in omega arith
@@ -151,7 +151,7 @@ module _ (ds : List TaskView) (picks : Picks) (m : StateView) (way : ℕ) where
   unfolding event
   next-went m′ e h =
       let w = went (ltb way (2 * choices ds (m .tasks))) (eqb over 0) stays (round .«may_choose») (eqb (round .late) 0) over (round .late)
-        (record { tasks = round .tasks; last = runner-after chosen (round .ended) }) m′ (round .ended) e h in
+      (record { tasks = round .tasks; last = runner-after chosen (round .ended) }) m′ (round .ended) e h in
       record {
         clear = record {
           no-overlap = eqb-true over 0 (w .w-clear);
@@ -165,12 +165,12 @@ module _ (ds : List TaskView) (picks : Picks) (m : StateView) (way : ℕ) where
       }
 
   pub late-went : (k : ℕ) (c : Cause) (e : Option Ended) → slot ds picks m way ≡ late k c e →
-    Crossed (event ds picks m way) k c ⊎ Tardy (event ds picks m way) k c
+      Crossed (event ds picks m way) k c ⊎ Tardy (event ds picks m way) k c
   unfolding event
   late-went k c e h =
       elim (failed (ltb way (2 * choices ds (m .tasks))) (eqb over 0) stays (round .«may_choose») (eqb (round .late) 0) over (round .late) k
-        (record { tasks = round .tasks; last = runner-after chosen (round .ended) }) c (round .ended) e h) [
-        inl w ↦ inl (record {
+      (record { tasks = round .tasks; last = runner-after chosen (round .ended) }) c (round .ended) e h) [
+        | inl w ↦ inl (record {
           x-task = w .o-task;
           x-some = λ z. eqb-false over 0 (w .o-clear) (w .o-task ∙ z);
           x-cause = w .o-cause;
@@ -178,7 +178,7 @@ module _ (ds : List TaskView) (picks : Picks) (m : StateView) (way : ℕ) where
           x-picked = rw (w .o-clear) refl;
           x-ended = ap ended-in h ∙ w .o-ended;
         })
-      | inr w ↦ inr (record {
+        | inr w ↦ inr (record {
           clear = record {
             no-overlap = eqb-true over 0 (w .d-clear);
             c-arrivals = refl;
@@ -188,7 +188,8 @@ module _ (ds : List TaskView) (picks : Picks) (m : StateView) (way : ℕ) where
           t-task = w .d-task;
           t-some = λ z. eqb-false (round .late) 0 (w .d-timely) (w .d-task ∙ z);
           t-cause = w .d-cause;
-        }) ]
+        })
+      ]
 
   pub event-arrivals : event ds picks m way .arrivals ≡ arrivals-in ds (m .tasks) mix
   unfolding event
@@ -197,21 +198,21 @@ module _ (ds : List TaskView) (picks : Picks) (m : StateView) (way : ℕ) where
   pub not-void : way < choices ds (m .tasks) → slot ds picks m way ≡ void → ⊥
   not-void h =
       unvoid (ltb way (2 * choices ds (m .tasks))) (eqb over 0) stays (round .«may_choose») (eqb (round .late) 0) over (round .late)
-        (record { tasks = round .tasks; last = runner-after chosen (round .ended) }) (round .ended)
-        (lt-ltb way (2 * choices ds (m .tasks)) (omega arith)) (ap (λ x. eqb x 1) (div-eq-of-lt h))
+      (record { tasks = round .tasks; last = runner-after chosen (round .ended) }) (round .ended)
+      (lt-ltb way (2 * choices ds (m .tasks)) (omega arith)) (ap (λ x. eqb x 1) (div-eq-of-lt h))
 
   pub not-void-stay : way < 2 * choices ds (m .tasks) → over ≡ 0 → round .«may_choose» ≡ true → slot ds picks m way ≡ void → ⊥
   not-void-stay h z y =
       unvoid-stay (ltb way (2 * choices ds (m .tasks))) (eqb over 0) stays (round .«may_choose») (eqb (round .late) 0) over (round .late)
-        (record { tasks = round .tasks; last = runner-after chosen (round .ended) }) (round .ended)
-        (lt-ltb way (2 * choices ds (m .tasks)) h) (eq-eqb over 0 z) y
+      (record { tasks = round .tasks; last = runner-after chosen (round .ended) }) (round .ended)
+      (lt-ltb way (2 * choices ds (m .tasks)) h) (eq-eqb over 0 z) y
 
   pub stay-pending : stays ≡ true → (slot ds picks m way ≡ void → ⊥) → (over ≡ 0) × (round .«may_choose» ≡ true)
   stay-pending h o =
       let x = stay-unvoid (ltb way (2 * choices ds (m .tasks))) (eqb over 0) (round .«may_choose») (eqb (round .late) 0) over (round .late)
-        (record { tasks = round .tasks; last = runner-after chosen (round .ended) }) (round .ended)
-        (λ v. o (ap (λ b. whole (ltb way (2 * choices ds (m .tasks))) (eqb over 0) b (round .«may_choose») (eqb (round .late) 0) over (round .late)
-          (record { tasks = round .tasks; last = runner-after chosen (round .ended) }) (round .ended)) h ∙ v)) in
+      (record { tasks = round .tasks; last = runner-after chosen (round .ended) }) (round .ended)
+      (λ v. o (ap (λ b. whole (ltb way (2 * choices ds (m .tasks))) (eqb over 0) b (round .«may_choose») (eqb (round .late) 0) over (round .late)
+      (record { tasks = round .tasks; last = runner-after chosen (round .ended) }) (round .ended)) h ∙ v)) in
       (eqb-true over 0 (x .0), x .1)
 
   pub none-beyond : 2 * choices ds (m .tasks) ≤ way → slot ds picks m way ≡ void

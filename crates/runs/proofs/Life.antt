@@ -46,12 +46,15 @@ does false stay d p j t =
     inr (record { s-response = refl; s-job = ap (λ (w : ℕ). Some (record { work = w; age = j .age + 1 })) e; s-below = λ q. let z : _≡_ {A = ℕ} 0 1 = cc in elim (let no : ⊥ = omega arith in no) [ ]; s-timely = refl })
 does true stay d p j t =
     elim (cases-bool (leb (d .worst) (j .work + 1))) [
-      inl y ↦ rw y (inl (record { e-picked = refl; e-response = refl; e-job = refl; e-enough = omega (arith, leb-true (d .worst) (j .work + 1) y, t .order); e-timely = refl }))
-    | inr y ↦ elim (cases-bool (leb (d .best) (j .work + 1))) [
-        inl z ↦ elim (cases-bool stay) [
-            inl u ↦ rw (y, z, u) (inr (record { s-response = refl; s-job = refl; s-below = λ _. leb-false (d .worst) (j .work + 1) y; s-timely = refl }))
-          | inr u ↦ rw (y, z, u) (inl (record { e-picked = refl; e-response = refl; e-job = refl; e-enough = leb-true (d .best) (j .work + 1) z; e-timely = refl })) ]
-      | inr z ↦ rw (y, z) (inr (record { s-response = refl; s-job = refl; s-below = λ _. leb-false (d .worst) (j .work + 1) y; s-timely = refl })) ] ]
+      | inl y ↦ rw y (inl (record { e-picked = refl; e-response = refl; e-job = refl; e-enough = omega (arith, leb-true (d .worst) (j .work + 1) y, t .order); e-timely = refl }))
+      | inr y ↦ elim (cases-bool (leb (d .best) (j .work + 1))) [
+        | inl z ↦ elim (cases-bool stay) [
+          | inl u ↦ rw (y, z, u) (inr (record { s-response = refl; s-job = refl; s-below = λ _. leb-false (d .worst) (j .work + 1) y; s-timely = refl }))
+          | inr u ↦ rw (y, z, u) (inl (record { e-picked = refl; e-response = refl; e-job = refl; e-enough = leb-true (d .best) (j .work + 1) z; e-timely = refl }))
+        ]
+        | inr z ↦ rw (y, z) (inr (record { s-response = refl; s-job = refl; s-below = λ _. leb-false (d .worst) (j .work + 1) y; s-timely = refl }))
+      ]
+    ]
 
 module _ (f : ℕ → Event) (k : ℕ) (d : TaskView) (timed : Timed d) where
   -- every job that came before slot n has ended before slot n
@@ -135,12 +138,13 @@ module _ (f : ℕ → Event) (k : ℕ) (d : TaskView) (timed : Timed d) where
   pub quiet-closed : (n : ℕ) → arrives (f n) k ≡ false → Closed n → Closed (n + 1)
   quiet-closed n b c = record {
     closed = λ a p q. elim (cases-eq a n) [
-        inl e ↦ let q′ : arrives (f n) k ≡ true = rw e at q in let z : _≡_ {A = ℕ} 0 1 = cc in elim (let no : ⊥ = omega arith in no) [ ]
-      | inr e ↦ let r = c .closed a (omega arith) q in (r .0, r .1, omega (arith, r .2), r .3, r .4) ];
+      | inl e ↦ let q′ : arrives (f n) k ≡ true = rw e at q in let z : _≡_ {A = ℕ} 0 1 = cc in elim (let no : ⊥ = omega arith in no) [ ]
+      | inr e ↦ let r = c .closed a (omega arith) q in (r .0, r .1, omega (arith, r .2), r .3, r .4)
+    ];
   }
 
   pub stayed : (n : ℕ) (j : Job) (r : Option ℕ) (o : Option Job) (t : Bool) → Mid n j → Stays (is-picked (f n) k) d j r o t → response (f n) k ≡ r → t ≡ false →
-    Alive (n + 1) (record { work = j .work + cond (is-picked (f n) k) 1 0; age = j .age + 1 })
+      Alive (n + 1) (record { work = j .work + cond (is-picked (f n) k) 1 0; age = j .age + 1 })
   stayed n j r o t m e hr ht =
       let s : n + 1 - (j .age + 1) ≡ n - j .age = omega arith in
       let late : leb (d .deadline) (j .age + 1) ≡ false = sym (e .s-timely) ∙ ht in
@@ -161,15 +165,16 @@ module _ (f : ℕ → Event) (k : ℕ) (d : TaskView) (timed : Timed d) where
 
   pub expired : (n : ℕ) (j : Job) (r : Option ℕ) (o : Option Job) (t : Bool) → Mid n j → Stays (is-picked (f n) k) d j r o t → response (f n) k ≡ r → t ≡ true → Expired n
   expired n j r o t m e hr ht =
-      let late : leb (d .deadline) (j .age + 1) ≡ true = sym (e .s-timely) ∙ ht in
-      (n - j .age,
-       record {
-         before = omega arith;
-         came = m .came;
-         alone = λ i p q. m .alone i p (omega arith);
-         unended = λ i p q. elim (cases-eq i n) [ inl z ↦ rw z (hr ∙ e .s-response) | inr z ↦ m .unended i p (omega arith) ];
-       },
-       omega (arith, leb-true (d .deadline) (j .age + 1) late, m .young, m .within))
+      let late : leb (d .deadline) (j .age + 1) ≡ true = sym (e .s-timely) ∙ ht in (
+        n - j .age,
+        record {
+          before = omega arith;
+          came = m .came;
+          alone = λ i p q. m .alone i p (omega arith);
+          unended = λ i p q. elim (cases-eq i n) [ inl z ↦ rw z (hr ∙ e .s-response) | inr z ↦ m .unended i p (omega arith) ];
+        },
+        omega (arith, leb-true (d .deadline) (j .age + 1) late, m .young, m .within),
+      )
 
   -- what is open stands
   pub none-pending : (n a : ℕ) → Closed n → Pending-before f k a n → ⊥
@@ -182,14 +187,16 @@ module _ (f : ℕ → Event) (k : ℕ) (d : TaskView) (timed : Timed d) where
   pub some-pending : (n a : ℕ) (j : Job) → Alive n j → Pending-before f k a n → a ≡ n - j .age
   some-pending n a j l o =
       elim (cases-order a (n - j .age)) [
-        inl e ↦ e
-      | inr c ↦ elim c [
-          inl p ↦
-            let x = o .alone (n - j .age) p (omega (arith, l .l-some, l .l-within)) in
-            elim (both-ways (arrives (f (n - j .age)) k) x (l .l-came)) [ ]
-        | inr p ↦
-            let x = l .l-alone a p (o .before) in
-            elim (both-ways (arrives (f a) k) x (o .came)) [ ] ] ]
+        | inl e ↦ e
+        | inr c ↦ elim c [
+          | inl p ↦
+              let x = o .alone (n - j .age) p (omega (arith, l .l-some, l .l-within)) in
+              elim (both-ways (arrives (f (n - j .age)) k) x (l .l-came)) [ ]
+          | inr p ↦
+              let x = l .l-alone a p (o .before) in
+              elim (both-ways (arrives (f a) k) x (o .came)) [ ]
+        ]
+      ]
 
   pub lives-young : (n : ℕ) (o : Option Job) → Lives (n + 1) o → Expired n → ⊥
   lives-young n None l e = none-pending (n + 1) (e .0) l (e .1)
@@ -198,60 +205,67 @@ module _ (f : ℕ → Event) (k : ℕ) (d : TaskView) (timed : Timed d) where
   pub mid-of : (n : ℕ) (o : Option Job) (j : Job) → Lives n o → (arrives (f n) k ≡ true → o ≡ None) → given (arrives (f n) k) o ≡ Some j → Mid n j
   mid-of n None j l fr h =
       elim (cases-bool (arrives (f n) k)) [
-        inl y ↦
-          let h′ : Some (record { work = 0; age = 0 }) ≡ Some j = rw y at h in
-          let e : record { work = 0; age = 0 } ≡ j = cc in
-          rw (sym e) (fresh n y)
-      | inr y ↦
-          let h′ : None ≡ Some j = rw y at h in
-          let z : _≡_ {A = ℕ} 0 1 = cc in elim (let no : ⊥ = omega arith in no) [ ] ]
+        | inl y ↦
+            let h′ : Some (record { work = 0; age = 0 }) ≡ Some j = rw y at h in
+            let e : record { work = 0; age = 0 } ≡ j = cc in
+            rw (sym e) (fresh n y)
+        | inr y ↦
+            let h′ : None ≡ Some j = rw y at h in
+            let z : _≡_ {A = ℕ} 0 1 = cc in elim (let no : ⊥ = omega arith in no) [ ]
+      ]
   mid-of n (Some o) j l fr h =
       elim (cases-bool (arrives (f n) k)) [
-        inl y ↦ let h′ : Some o ≡ None = fr y in let z : _≡_ {A = ℕ} 0 1 = cc in elim (let no : ⊥ = omega arith in no) [ ]
-      | inr y ↦
-          let h′ : Some o ≡ Some j = rw y at h in
-          let e : o ≡ j = cc in
-          rw (sym e) (older n o y l) ]
+        | inl y ↦ let h′ : Some o ≡ None = fr y in let z : _≡_ {A = ℕ} 0 1 = cc in elim (let no : ⊥ = omega arith in no) [ ]
+        | inr y ↦
+            let h′ : Some o ≡ Some j = rw y at h in
+            let e : o ≡ j = cc in
+            rw (sym e) (older n o y l)
+      ]
 
   pub closed-of : (n : ℕ) (o : Option Job) → Lives n o → given (arrives (f n) k) o ≡ None → Closed (n + 1)
   closed-of n None l h =
       elim (cases-bool (arrives (f n) k)) [
-        inl y ↦
-          let h′ : _≡_ {A = Option Job} (Some (record { work = 0; age = 0 })) None = rw y at h in
-          let z : _≡_ {A = ℕ} 0 1 = cc in elim (let no : ⊥ = omega arith in no) [ ]
-      | inr y ↦ quiet-closed n y l ]
+        | inl y ↦
+            let h′ : _≡_ {A = Option Job} (Some (record { work = 0; age = 0 })) None = rw y at h in
+            let z : _≡_ {A = ℕ} 0 1 = cc in elim (let no : ⊥ = omega arith in no) [ ]
+        | inr y ↦ quiet-closed n y l
+      ]
   closed-of n (Some o) l h =
       elim (cases-bool (arrives (f n) k)) [
-        inl y ↦
-          let h′ : Some o ≡ None = rw y at h in
-          let z : _≡_ {A = ℕ} 0 1 = cc in elim (let no : ⊥ = omega arith in no) [ ]
-      | inr y ↦
-          let h′ : Some o ≡ None = rw y at h in
-          let z : _≡_ {A = ℕ} 0 1 = cc in elim (let no : ⊥ = omega arith in no) [ ] ]
+        | inl y ↦
+            let h′ : Some o ≡ None = rw y at h in
+            let z : _≡_ {A = ℕ} 0 1 = cc in elim (let no : ⊥ = omega arith in no) [ ]
+        | inr y ↦
+            let h′ : Some o ≡ None = rw y at h in
+            let z : _≡_ {A = ℕ} 0 1 = cc in elim (let no : ⊥ = omega arith in no) [ ]
+      ]
 
   -- what the rule sees
   unseen : (n a : ℕ) → arrives (f n) k ≡ false → Closed n → Pending-in f k a n → ⊥
   unseen n a b c w =
       elim (cases-eq a n) [
-        inl e ↦ let q : arrives (f n) k ≡ true = rw e at (w .came) in both-ways (arrives (f n) k) b q
-      | inr e ↦
-        none-pending n a c (record { before = omega (arith, w .before); came = w .came; alone = λ i p q. w .alone i p (omega arith); unended = w .unended }) ]
+        | inl e ↦ let q : arrives (f n) k ≡ true = rw e at (w .came) in both-ways (arrives (f n) k) b q
+        | inr e ↦
+            none-pending n a c (record { before = omega (arith, w .before); came = w .came; alone = λ i p q. w .alone i p (omega arith); unended = w .unended })
+      ]
 
   unseen-of : (n : ℕ) (o : Option Job) → Lives n o → given (arrives (f n) k) o ≡ None → (a : ℕ) → Pending-in f k a n → ⊥
   unseen-of n None l h a w =
       elim (cases-bool (arrives (f n) k)) [
-        inl y ↦
-          let h′ : _≡_ {A = Option Job} (Some (record { work = 0; age = 0 })) None = rw y at h in
-          let z : _≡_ {A = ℕ} 0 1 = cc in elim (let no : ⊥ = omega arith in no) [ ]
-      | inr y ↦ unseen n a y l w ]
+        | inl y ↦
+            let h′ : _≡_ {A = Option Job} (Some (record { work = 0; age = 0 })) None = rw y at h in
+            let z : _≡_ {A = ℕ} 0 1 = cc in elim (let no : ⊥ = omega arith in no) [ ]
+        | inr y ↦ unseen n a y l w
+      ]
   unseen-of n (Some o) l h a w =
       elim (cases-bool (arrives (f n) k)) [
-        inl y ↦
-          let h′ : Some o ≡ None = rw y at h in
-          let z : _≡_ {A = ℕ} 0 1 = cc in elim (let no : ⊥ = omega arith in no) [ ]
-      | inr y ↦
-          let h′ : Some o ≡ None = rw y at h in
-          let z : _≡_ {A = ℕ} 0 1 = cc in elim (let no : ⊥ = omega arith in no) [ ] ]
+        | inl y ↦
+            let h′ : Some o ≡ None = rw y at h in
+            let z : _≡_ {A = ℕ} 0 1 = cc in elim (let no : ⊥ = omega arith in no) [ ]
+        | inr y ↦
+            let h′ : Some o ≡ None = rw y at h in
+            let z : _≡_ {A = ℕ} 0 1 = cc in elim (let no : ⊥ = omega arith in no) [ ]
+      ]
 
   pub age-as-shown : (n : ℕ) (o o′ : Option Job) → o′ ≡ given (arrives (f n) k) o → Lives n o → (arrives (f n) k ≡ true → o ≡ None) → Age-as-shown f k n (age-of o′)
   age-as-shown n o None e l fr = unseen-of n o l (sym e)
@@ -266,8 +280,8 @@ module _ (f : ℕ → Event) (k : ℕ) (d : TaskView) (timed : Timed d) where
     pub expires : tardy ≡ true → Expired n
 
   pub one-slot : (n p : ℕ) (stay : Bool) (o o′ : Option Job) → o′ ≡ given (arrives (f n) k) o → Lives n o → (arrives (f n) k ≡ true → o ≡ None) →
-    response (f n) k ≡ serve-job (is-picked (f n) k) stay d p o′ .response →
-    One n (serve-job (is-picked (f n) k) stay d p o′ .state .job) (serve-job (is-picked (f n) k) stay d p o′ .late)
+      response (f n) k ≡ serve-job (is-picked (f n) k) stay d p o′ .response →
+      One n (serve-job (is-picked (f n) k) stay d p o′ .state .job) (serve-job (is-picked (f n) k) stay d p o′ .late)
   one-slot n p stay o None e l fr hr = record {
     law = λ x h. let z : _≡_ {A = ℕ} 0 1 = cc in elim (let no : ⊥ = omega arith in no) [ ];
     onward = λ _. closed-of n o l (sym e);
@@ -276,16 +290,17 @@ module _ (f : ℕ → Event) (k : ℕ) (d : TaskView) (timed : Timed d) where
   one-slot n p stay o (Some j) e l fr hr =
       let m = mid-of n o j l fr (sym e) in
       elim (does (is-picked (f n) k) stay d p j timed) [
-        inl b ↦ record {
+        | inl b ↦ record {
           law = λ x h. let q : j .age + 1 ≡ x = same-some (j .age + 1) x (sym (hr ∙ b .e-response) ∙ h) in rw (sym q) (answered n j _ _ _ m b);
           onward = λ _. rw (b .e-job) (ended-closed n (j .age + 1) (hr ∙ b .e-response));
           expires = λ t. elim (both-ways _ (b .e-timely) t) [ ];
         }
-      | inr b ↦ record {
+        | inr b ↦ record {
           law = λ x h. let q : None ≡ Some x = sym (hr ∙ b .s-response) ∙ h in let z : _≡_ {A = ℕ} 0 1 = cc in elim (let no : ⊥ = omega arith in no) [ ];
           onward = λ t. rw (b .s-job) (stayed n j _ _ _ m b hr t);
           expires = λ t. expired n j _ _ _ m b hr t;
-        } ]
+        }
+      ]
     where
       same-some : (a b : ℕ) → Some a ≡ Some b → a ≡ b
       same-some a b h = cc

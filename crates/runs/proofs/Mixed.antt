@@ -39,7 +39,7 @@ pub record Mixed-at (ds : List TaskView) (ss : List TaskState) (a i w : ℕ) (d 
   pub m-shows : getD (arrivals-in ds ss a) i false ≡ d .stream .answer (s .position) w .0
 
 pub mixed-at : (ds : List TaskView) (ss : List TaskState) (h : ℕ → ℕ) → Fits ds ss h → (i : ℕ) (d : TaskView) (s : TaskState) → nth ds i ≡ Some d → nth ss i ≡ Some s →
-  Mixed-at ds ss (mixed ds ss h) i (h i) d s
+    Mixed-at ds ss (mixed ds ss h) i (h i) d s
 mixed-at [] ss h f i d s hd hs = let z : _≡_ {A = ℕ} 0 1 = cc in elim (let no : ⊥ = omega arith in no) [ ]
 mixed-at (e ∷ ds) [] h f i d s hd hs = let z : _≡_ {A = ℕ} 0 1 = cc in elim (let no : ⊥ = omega arith in no) [ ]
 mixed-at (e ∷ ds) (t ∷ ss) h f zero d s hd hs =

@@ -29,8 +29,9 @@ pub dispatch-stands : (ds : List TaskView) (picks : Picks) → Proper ds → Dis
 dispatch-stands ds picks proper ways trace end r n p clear =
     let x = slot-of ds picks proper trace r n p in
     elim (x .a-kind) [
-      inl c ↦ clear-picked ds picks proper (event-at trace) n (x .a-state) (x .a-way) c (x .a-know) (x .a-last)
-    | inr w ↦ elim (clear (w .0) (crossed-here ds picks proper (event-at trace) n (x .a-state) (x .a-way) (x .a-know) (w .0) (w .1) (w .2))) [ ] ]
+      | inl c ↦ clear-picked ds picks proper (event-at trace) n (x .a-state) (x .a-way) c (x .a-know) (x .a-last)
+      | inr w ↦ elim (clear (w .0) (crossed-here ds picks proper (event-at trace) n (x .a-state) (x .a-way) (x .a-know) (w .0) (w .1) (w .2))) [ ]
+    ]
 
 job-nth : (ts : List Seen) (i : ℕ) (t : Seen) → nth ts i ≡ Some t → job-at ts i ≡ isSome (t .age)
 job-nth [] i t h = let z : _≡_ {A = ℕ} 0 1 = cc in elim (let no : ⊥ = omega arith in no) [ ]
@@ -59,10 +60,12 @@ module _ (ds : List TaskView) (f : ℕ → Event) (n : ℕ) (ts : List Seen) (se
   one-since : (k a a′ : ℕ) → Pending-in f k a n → Pending-in f k a′ n → a ≡ a′
   one-since k a a′ w w′ =
       elim (cases-order a a′) [
-        inl e ↦ e
-      | inr c ↦ elim c [
-          inl p ↦ elim (both-ways (arrives (f a′) k) (w .alone a′ p (w′ .before)) (w′ .came)) [ ]
-        | inr p ↦ elim (both-ways (arrives (f a) k) (w′ .alone a p (w .before)) (w .came)) [ ] ] ]
+        | inl e ↦ e
+        | inr c ↦ elim c [
+          | inl p ↦ elim (both-ways (arrives (f a′) k) (w .alone a′ p (w′ .before)) (w′ .came)) [ ]
+          | inr p ↦ elim (both-ways (arrives (f a) k) (w′ .alone a p (w .before)) (w .came)) [ ]
+        ]
+      ]
 
   -- a task that waits, as the rule sees it
   record Seen-task (k : ℕ) (d : TaskView) : Type 0 where
@@ -97,10 +100,10 @@ module _ (ds : List TaskView) (f : ℕ → Event) (n : ℕ) (ts : List Seen) (se
     pub mine : Seen-task k d
     pub since-is : a ≡ n - mine .age
     pub order : (key (record { priority = d .priority; age = Some (mine .age) }) < key (record { priority = task-view .priority; age = Some (theirs .age) }))
-      ⊎ ((key (record { priority = task-view .priority; age = Some (theirs .age) }) ≡ key (record { priority = d .priority; age = Some (mine .age) })) × (p ≤ k))
+        ⊎ ((key (record { priority = task-view .priority; age = Some (theirs .age) }) ≡ key (record { priority = d .priority; age = Some (mine .age) })) × (p ≤ k))
 
   ahead : (key : Seen → ℕ) (p : ℕ) → ((i : ℕ) → has-job ts i ≡ true → Foremost (Before (key-of key ts)) ts p) →
-    (k : ℕ) (d : TaskView) (a : ℕ) → Is-task ds k d → Pending-in f k a n → Ahead key p k d a
+      (k : ℕ) (d : TaskView) (a : ℕ) → Is-task ds k d → Pending-in f k a n → Ahead key p k d a
   ahead key p fore k d a t w =
       let mine = of-pending k d t a w in
       let h = seen-has k d t mine in
@@ -113,11 +116,15 @@ module _ (ds : List TaskView) (f : ℕ → Event) (n : ℕ) (ts : List Seen) (se
       let km = key-nth key ts (k - 1) _ (mine .is) in
       let kt = key-nth key ts (p - 1) _ (theirs .is) in
       record {
-        task-view = task-view .0; task = task; theirs = theirs; mine = mine;
+        task-view = task-view .0;
+        task = task;
+        theirs = theirs;
+        mine = mine;
         since-is = one-since k a (n - mine .age) w (mine .ends-in);
         order = elim (fm .before k h) [
-            inl q ↦ inl (omega (arith, km, kt, q))
-          | inr q ↦ inr (sym kt ∙ q .0 ∙ km, q .1) ];
+          | inl q ↦ inl (omega (arith, km, kt, q))
+          | inr q ↦ inr (sym kt ∙ q .0 ∙ km, q .1)
+        ];
       }
 
 pub priority-stands : (ds : List TaskView) (picks : Picks) → Proper ds → Priority-law ds picks
@@ -125,7 +132,7 @@ priority-stands ds picks proper is ways trace end r n p clear k d a t w =
     let r′ : Run ds by-priority ways trace end = rw is at r in
     let x = dispatch-stands ds by-priority proper ways trace end r′ n p clear in
     let y = ahead ds (event-at trace) n (x .0) (x .1) (λ s. s .priority) (by-priority (x .0) (last-runner (event-at trace) n))
-      (λ i h. priority-first (x .0) (last-runner (event-at trace) n) .first i h) k d a t w in
+    (λ i h. priority-first (x .0) (last-runner (event-at trace) n) .first i h) k d a t w in
     let z : Ahead ds (event-at trace) n (x .0) (x .1) (λ s. s .priority) (event-at trace n .picked) k d a = rw (x .2) y in
     record { task-view = z .task-view; task = z .task; since = n - z .theirs .age; pending = z .theirs .ends-in; higher = z .order }
 
@@ -134,11 +141,15 @@ waiting-stands ds picks proper is ways trace end r n p clear k d a t w =
     let r′ : Run ds by-age ways trace end = rw is at r in
     let x = dispatch-stands ds by-age proper ways trace end r′ n p clear in
     let y = ahead ds (event-at trace) n (x .0) (x .1) waited (by-age (x .0) (last-runner (event-at trace) n))
-      (λ i h. age-first (x .0) (last-runner (event-at trace) n) .first i h) k d a t w in
+    (λ i h. age-first (x .0) (last-runner (event-at trace) n) .first i h) k d a t w in
     let z : Ahead ds (event-at trace) n (x .0) (x .1) waited (event-at trace n .picked) k d a = rw (x .2) y in
     record {
-      task-view = z .task-view; task = z .task; since = n - z .theirs .age; pending = z .theirs .ends-in;
+      task-view = z .task-view;
+      task = z .task;
+      since = n - z .theirs .age;
+      pending = z .theirs .ends-in;
       older = elim (z .order) [
-          inl q ↦ inl (omega (arith, z .since-is, z .theirs .fits, z .mine .fits, q))
-        | inr q ↦ inr (omega (arith, z .since-is, q .0), q .1) ];
+        | inl q ↦ inl (omega (arith, z .since-is, z .theirs .fits, z .mine .fits, q))
+        | inr q ↦ inr (omega (arith, z .since-is, q .0), q .1)
+      ];
     }

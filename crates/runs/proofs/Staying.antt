@@ -53,7 +53,7 @@ module _ (ds : List TaskView) (picks : Picks) (proper : Proper ds) (f : ℕ → 
     pub crossed-here : Overlaps ds f k n
     crossed-here =
         let o = pending-of f k (x .x-view) (timed-of ds picks proper k (x .x-view) t) n (know k (x .x-view) t .0 .job) (know k (x .x-view) t .2)
-          (λ e. x .x-has (sym (ap (λ (s : TaskState). s .job) state-is) ∙ e)) in
+        (λ e. x .x-has (sym (ap (λ (s : TaskState). s .job) state-is) ∙ e)) in
         record {
           o-view = x .x-view;
           o-task = t;
@@ -68,7 +68,7 @@ module _ (ds : List TaskView) (picks : Picks) (proper : Proper ds) (f : ℕ → 
         let t′ = o .o-task in
         let s = know i d t′ in
         let e : s .0 .job ≡ None = x .x-first (i - 1) d (s .0) (omega (arith, x .x-number, t′ .from-one)) (t′ .here) (s .1)
-          (sym (ap (λ l. getD l (i - 1) false) (w .x-arrivals)) ∙ o .o-again) in
+        (sym (ap (λ l. getD l (i - 1) false) (w .x-arrivals)) ∙ o .o-again) in
         let l : Lives f i d (timed-of ds picks proper i d t′) n None = rw e at (s .2) in
         none-pending f i d (timed-of ds picks proper i d t′) n (o .o-since) l (o .o-pending)
 
@@ -91,7 +91,7 @@ module _ (ds : List TaskView) (picks : Picks) (proper : Proper ds) (f : ℕ → 
     pub tardy-here : Misses-deadline ds f k n
     tardy-here =
         let e : serve (is-picked (f n) k) (stays ds picks m way) (y .y-view) (went k (y .y-view) t″) .late ≡ true =
-          rw (w .clear .c-picked, sym mid-is) (y .y-late) in
+        rw (w .clear .c-picked, sym mid-is) (y .y-late) in
         let r = clear-expires ds picks proper f n m way (w .clear) know k (y .y-view) t″ e in
         record { e-view = y .y-view; e-task = t″; e-since = r .0; e-pending = r .1; e-reached = r .2 }
 
@@ -100,8 +100,8 @@ module _ (ds : List TaskView) (picks : Picks) (proper : Proper ds) (f : ℕ → 
         let d = e .e-view in
         let u = e .e-task in
         let h : serve (eqb i (chosen ds picks m way)) (stays ds picks m way) d (went i d u) .late ≡ false =
-          y .y-first (i - 1) i d (went i d u) (omega (arith, y .y-number, u .from-one)) (omega (arith, u .from-one)) (u .here)
-            (did ds picks proper f n m way (w .clear) know i d u .t-mid) in
+        y .y-first (i - 1) i d (went i d u) (omega (arith, y .y-number, u .from-one)) (omega (arith, u .from-one)) (u .here)
+        (did ds picks proper f n m way (w .clear) know i d u .t-mid) in
         clear-timely ds picks proper f n m way (w .clear) know i e (rw (w .clear .c-picked) h)
 
 same-late : (k k′ : ℕ) (c c′ : Cause) → ends-late k c ≡ ends-late k′ c′ → (k ≡ k′) × (c ≡ c′)
@@ -120,33 +120,38 @@ module _ (ds : List TaskView) (picks : Picks) (proper : Proper ds) (trace : List
   }
   late-of (ends-late k c) r =
       elim (r .l-late) [
-        inl w ↦
-          let here = crossed-here ds picks proper f (r .l-slot) (r .l-state) (r .l-way) (r .l-know) k c w in
-          let first = crossed-first ds picks proper f (r .l-slot) (r .l-state) (r .l-way) (r .l-know) k c w in
-          record {
-            overlap-then = λ k′ e. (r .l-slot, rw (sym (same-late k k′ c Overlap e .0)) (record { last = r .l-is; here = here; first = first }));
-            overlap-if = λ k′ n p o. elim (cases-lt n (r .l-slot)) [
-                inl q ↦ elim (r .l-calm n (omega arith) q .apart k′ o) [ ]
-              | inr q ↦ (k, ap (ends-late k) (w .x-cause), omega (arith, r .l-is)) ];
-            deadline-then = λ k′ e. let e′ : Overlap ≡ Deadline = sym (w .x-cause) ∙ same-late k k′ c Deadline e .1 in let z : _≡_ {A = ℕ} 0 1 = cc in elim (let no : ⊥ = omega arith in no) [ ];
-            deadline-if = λ k′ n p e no. elim (cases-lt n (r .l-slot)) [
-                inl q ↦ elim (r .l-calm n (omega arith) q .in-time k′ e) [ ]
-              | inr q ↦ let ne : r .l-slot ≡ n = omega (arith, r .l-is) in elim (no k (rw ne at here)) [ ] ];
-          }
-      | inr w ↦
-          let here = tardy-here ds picks proper f (r .l-slot) (r .l-state) (r .l-way) (r .l-know) k c w in
-          let first = tardy-first ds picks proper f (r .l-slot) (r .l-state) (r .l-way) (r .l-know) k c w in
-          let apart = clear-apart ds picks proper f (r .l-slot) (r .l-state) (r .l-way) (w .clear) (r .l-know) in
-          record {
-            overlap-then = λ k′ e. let e′ : Deadline ≡ Overlap = sym (w .t-cause) ∙ same-late k k′ c Overlap e .1 in let z : _≡_ {A = ℕ} 0 1 = cc in elim (let no : ⊥ = omega arith in no) [ ];
-            overlap-if = λ k′ n p o. elim (cases-lt n (r .l-slot)) [
-                inl q ↦ elim (r .l-calm n (omega arith) q .apart k′ o) [ ]
-              | inr q ↦ let ne : n ≡ r .l-slot = omega (arith, r .l-is) in elim (apart k′ (rw ne at o)) [ ] ];
-            deadline-then = λ k′ e. (r .l-slot, rw (sym (same-late k k′ c Deadline e .0)) (record { last = r .l-is; here = here; first = first }), apart);
-            deadline-if = λ k′ n p e no. elim (cases-lt n (r .l-slot)) [
-                inl q ↦ elim (r .l-calm n (omega arith) q .in-time k′ e) [ ]
-              | inr q ↦ (k, ap (ends-late k) (w .t-cause), omega (arith, r .l-is)) ];
-          } ]
+        | inl w ↦
+            let here = crossed-here ds picks proper f (r .l-slot) (r .l-state) (r .l-way) (r .l-know) k c w in
+            let first = crossed-first ds picks proper f (r .l-slot) (r .l-state) (r .l-way) (r .l-know) k c w in
+            record {
+              overlap-then = λ k′ e. (r .l-slot, rw (sym (same-late k k′ c Overlap e .0)) (record { last = r .l-is; here = here; first = first }));
+              overlap-if = λ k′ n p o. elim (cases-lt n (r .l-slot)) [
+                | inl q ↦ elim (r .l-calm n (omega arith) q .apart k′ o) [ ]
+                | inr q ↦ (k, ap (ends-late k) (w .x-cause), omega (arith, r .l-is))
+              ];
+              deadline-then = λ k′ e. let e′ : Overlap ≡ Deadline = sym (w .x-cause) ∙ same-late k k′ c Deadline e .1 in let z : _≡_ {A = ℕ} 0 1 = cc in elim (let no : ⊥ = omega arith in no) [ ];
+              deadline-if = λ k′ n p e no. elim (cases-lt n (r .l-slot)) [
+                | inl q ↦ elim (r .l-calm n (omega arith) q .in-time k′ e) [ ]
+                | inr q ↦ let ne : r .l-slot ≡ n = omega (arith, r .l-is) in elim (no k (rw ne at here)) [ ]
+              ];
+            }
+        | inr w ↦
+            let here = tardy-here ds picks proper f (r .l-slot) (r .l-state) (r .l-way) (r .l-know) k c w in
+            let first = tardy-first ds picks proper f (r .l-slot) (r .l-state) (r .l-way) (r .l-know) k c w in
+            let apart = clear-apart ds picks proper f (r .l-slot) (r .l-state) (r .l-way) (w .clear) (r .l-know) in
+            record {
+              overlap-then = λ k′ e. let e′ : Deadline ≡ Overlap = sym (w .t-cause) ∙ same-late k k′ c Overlap e .1 in let z : _≡_ {A = ℕ} 0 1 = cc in elim (let no : ⊥ = omega arith in no) [ ];
+              overlap-if = λ k′ n p o. elim (cases-lt n (r .l-slot)) [
+                | inl q ↦ elim (r .l-calm n (omega arith) q .apart k′ o) [ ]
+                | inr q ↦ let ne : n ≡ r .l-slot = omega (arith, r .l-is) in elim (apart k′ (rw ne at o)) [ ]
+              ];
+              deadline-then = λ k′ e. (r .l-slot, rw (sym (same-late k k′ c Deadline e .0)) (record { last = r .l-is; here = here; first = first }), apart);
+              deadline-if = λ k′ n p e no. elim (cases-lt n (r .l-slot)) [
+                | inl q ↦ elim (r .l-calm n (omega arith) q .in-time k′ e) [ ]
+                | inr q ↦ (k, ap (ends-late k) (w .t-cause), omega (arith, r .l-is))
+              ];
+            }
+      ]
 
 pub lateness-stands : (ds : List TaskView) (picks : Picks) → Proper ds → Lateness-law ds picks
 lateness-stands ds picks proper ways trace end r = late-of ds picks proper trace end (told ds picks proper trace r .final)

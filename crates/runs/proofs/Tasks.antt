@@ -50,26 +50,28 @@ none-is (Some j) h = let z : _≡_ {A = ℕ} 0 1 = cc in elim (let no : ⊥ = om
 
 -- with no overlap, an arrival finds no job
 pub alone-at : (ds : List TaskView) (ss : List TaskState) (n a i : ℕ) (d : TaskView) (s : TaskState) → 1 ≤ n → overlapping n ds ss a ≡ 0 →
-  nth ds i ≡ Some d → nth ss i ≡ Some s → getD (arrivals-in ds ss a) i false ≡ true → s .job ≡ None
+    nth ds i ≡ Some d → nth ss i ≡ Some s → getD (arrivals-in ds ss a) i false ≡ true → s .job ≡ None
 alone-at [] ss n a i d s hn ho hd hs b = let z : _≡_ {A = ℕ} 0 1 = cc in elim (let no : ⊥ = omega arith in no) [ ]
 alone-at (e ∷ ds) [] n a i d s hn ho hd hs b = let z : _≡_ {A = ℕ} 0 1 = cc in elim (let no : ⊥ = omega arith in no) [ ]
 alone-at (e ∷ ds) (t ∷ ss) n a zero d s hn ho hd hs b =
     elim (cases-bool (overlaps (come e t a .release))) [
-      inl y ↦ let z : n ≡ 0 = rw y at ho in elim (let no : ⊥ = omega arith in no) [ ]
-    | inr y ↦
-      let y′ = sym (overlap-is (come e t a .arrives) (t .job)) ∙ y in
-      let q : isSome (t .job) ≡ false = rw b at y′ in
-      let se : t ≡ s = cc in
-      rw (sym se) (none-is (t .job) q) ]
+      | inl y ↦ let z : n ≡ 0 = rw y at ho in elim (let no : ⊥ = omega arith in no) [ ]
+      | inr y ↦
+          let y′ = sym (overlap-is (come e t a .arrives) (t .job)) ∙ y in
+          let q : isSome (t .job) ≡ false = rw b at y′ in
+          let se : t ≡ s = cc in
+          rw (sym se) (none-is (t .job) q)
+    ]
 alone-at (e ∷ ds) (t ∷ ss) n a (suc i) d s hn ho hd hs b =
     elim (cases-bool (overlaps (come e t a .release))) [
-      inl y ↦ let z : n ≡ 0 = rw y at ho in elim (let no : ⊥ = omega arith in no) [ ]
-    | inr y ↦
-      let ho′ : overlapping (n + 1) ds ss (come e t a .left) ≡ 0 = rw y at ho in
-      alone-at ds ss (n + 1) (come e t a .left) i d s (omega arith) ho′ hd hs b ]
+      | inl y ↦ let z : n ≡ 0 = rw y at ho in elim (let no : ⊥ = omega arith in no) [ ]
+      | inr y ↦
+          let ho′ : overlapping (n + 1) ds ss (come e t a .left) ≡ 0 = rw y at ho in
+          alone-at ds ss (n + 1) (come e t a .left) i d s (omega arith) ho′ hd hs b
+    ]
 
 pub serve-all-at : (ds : List TaskView) (ss : List TaskState) (pick : ℕ) (stay : Bool) (n i k : ℕ) (d : TaskView) (s : TaskState) → k ≡ n + i →
-  nth ds i ≡ Some d → nth ss i ≡ Some s → nth (serve-all pick stay n ds ss .tasks) i ≡ Some (serve (eqb k pick) stay d s .state)
+    nth ds i ≡ Some d → nth ss i ≡ Some s → nth (serve-all pick stay n ds ss .tasks) i ≡ Some (serve (eqb k pick) stay d s .state)
 serve-all-at [] ss pick stay n i k d s hk hd hs = let z : _≡_ {A = ℕ} 0 1 = cc in elim (let no : ⊥ = omega arith in no) [ ]
 serve-all-at (e ∷ ds) [] pick stay n i k d s hk hd hs = let z : _≡_ {A = ℕ} 0 1 = cc in elim (let no : ⊥ = omega arith in no) [ ]
 serve-all-at (e ∷ ds) (t ∷ ss) pick stay n zero k d s hk hd hs =
@@ -102,7 +104,7 @@ of-silent : (n k : ℕ) (r : Option ℕ) (e : Option Ended) → r ≡ None → o
 of-silent n k r e h = rw h refl
 
 pub ended-at : (ds : List TaskView) (ss : List TaskState) (pick : ℕ) (stay : Bool) (n i k : ℕ) (d : TaskView) (s : TaskState) → k ≡ n + i →
-  nth ds i ≡ Some d → nth ss i ≡ Some s → of-task k (serve-all pick stay n ds ss .ended) ≡ serve (eqb k pick) stay d s .response
+    nth ds i ≡ Some d → nth ss i ≡ Some s → of-task k (serve-all pick stay n ds ss .ended) ≡ serve (eqb k pick) stay d s .response
 ended-at [] ss pick stay n i k d s hk hd hs = let z : _≡_ {A = ℕ} 0 1 = cc in elim (let no : ⊥ = omega arith in no) [ ]
 ended-at (e ∷ ds) [] pick stay n i k d s hk hd hs = let z : _≡_ {A = ℕ} 0 1 = cc in elim (let no : ⊥ = omega arith in no) [ ]
 ended-at (e ∷ ds) (t ∷ ss) pick stay n zero k d s hk hd hs =
@@ -113,15 +115,16 @@ ended-at (e ∷ ds) (t ∷ ss) pick stay n zero k d s hk hd hs =
 ended-at (e ∷ ds) (t ∷ ss) pick stay n (suc i) k d s hk hd hs =
     let ih = ended-at ds ss pick stay (n + 1) i k d s (omega arith) hd hs in
     elim (cases-bool (eqb n pick)) [
-      inl y ↦
-        let q : eqb k pick ≡ false = ne-eqb k pick (λ z. omega (arith, eqb-true n pick y)) in
-        let none : serve (eqb k pick) stay d s .response ≡ None = rw q (idle-response stay d (s .position) (s .job)) in
-        of-other n k (serve (eqb n pick) stay e t .response) (serve-all pick stay (n + 1) ds ss .ended) (λ z. omega arith) (ih ∙ none) ∙ sym none
-    | inr y ↦
-        of-silent n k (serve (eqb n pick) stay e t .response) (serve-all pick stay (n + 1) ds ss .ended) (rw y (idle-response stay e (t .position) (t .job))) ∙ ih ]
+      | inl y ↦
+          let q : eqb k pick ≡ false = ne-eqb k pick (λ z. omega (arith, eqb-true n pick y)) in
+          let none : serve (eqb k pick) stay d s .response ≡ None = rw q (idle-response stay d (s .position) (s .job)) in
+          of-other n k (serve (eqb n pick) stay e t .response) (serve-all pick stay (n + 1) ds ss .ended) (λ z. omega arith) (ih ∙ none) ∙ sym none
+      | inr y ↦
+          of-silent n k (serve (eqb n pick) stay e t .response) (serve-all pick stay (n + 1) ds ss .ended) (rw y (idle-response stay e (t .position) (t .job))) ∙ ih
+    ]
 
 pub timely-at : (ds : List TaskView) (ss : List TaskState) (pick : ℕ) (stay : Bool) (n i k : ℕ) (d : TaskView) (s : TaskState) → k ≡ n + i → 1 ≤ n →
-  nth ds i ≡ Some d → nth ss i ≡ Some s → serve-all pick stay n ds ss .late ≡ 0 → serve (eqb k pick) stay d s .late ≡ false
+    nth ds i ≡ Some d → nth ss i ≡ Some s → serve-all pick stay n ds ss .late ≡ 0 → serve (eqb k pick) stay d s .late ≡ false
 timely-at [] ss pick stay n i k d s hk hn hd hs h = let z : _≡_ {A = ℕ} 0 1 = cc in elim (let no : ⊥ = omega arith in no) [ ]
 timely-at (e ∷ ds) [] pick stay n i k d s hk hn hd hs h = let z : _≡_ {A = ℕ} 0 1 = cc in elim (let no : ⊥ = omega arith in no) [ ]
 timely-at (e ∷ ds) (t ∷ ss) pick stay n zero k d s hk hn hd hs h =
@@ -129,15 +132,17 @@ timely-at (e ∷ ds) (t ∷ ss) pick stay n zero k d s hk hn hd hs h =
     let de : e ≡ d = cc in
     let se : t ≡ s = cc in
     elim (cases-bool (serve (eqb n pick) stay e t .late)) [
-      inl y ↦ let z : n ≡ 0 = rw y at h in elim (let no : ⊥ = omega arith in no) [ ]
-    | inr y ↦ rw (ke, sym de, sym se) y ]
+      | inl y ↦ let z : n ≡ 0 = rw y at h in elim (let no : ⊥ = omega arith in no) [ ]
+      | inr y ↦ rw (ke, sym de, sym se) y
+    ]
 timely-at (e ∷ ds) (t ∷ ss) pick stay n (suc i) k d s hk hn hd hs h =
     elim (cases-bool (serve (eqb n pick) stay e t .late)) [
-      inl y ↦ let z : n ≡ 0 = rw y at h in elim (let no : ⊥ = omega arith in no) [ ]
-    | inr y ↦ let h′ : serve-all pick stay (n + 1) ds ss .late ≡ 0 = rw y at h in timely-at ds ss pick stay (n + 1) i k d s (omega arith) (omega arith) hd hs h′ ]
+      | inl y ↦ let z : n ≡ 0 = rw y at h in elim (let no : ⊥ = omega arith in no) [ ]
+      | inr y ↦ let h′ : serve-all pick stay (n + 1) ds ss .late ≡ 0 = rw y at h in timely-at ds ss pick stay (n + 1) i k d s (omega arith) (omega arith) hd hs h′
+    ]
 
 pub firsts-at : (ds : List TaskView) (ss : List TaskState) (i : ℕ) (d : TaskView) → length ds ≤ length ss → nth ds i ≡ Some d →
-  nth (firsts ds ss) i ≡ Some (record { position = d .stream .first; job = None })
+    nth (firsts ds ss) i ≡ Some (record { position = d .stream .first; job = None })
 firsts-at [] ss i d h hd = let z : _≡_ {A = ℕ} 0 1 = cc in elim (let no : ⊥ = omega arith in no) [ ]
 firsts-at (e ∷ ds) [] i d h hd = elim (let no : ⊥ = omega arith in no) [ ]
 firsts-at (e ∷ ds) (t ∷ ss) zero d h hd = let de : e ≡ d = cc in rw (sym de) refl
@@ -164,28 +169,42 @@ crossing [] ss n a k h z = elim (z (sym h)) [ ]
 crossing (e ∷ ds) [] n a k h z = elim (z (sym h)) [ ]
 crossing (e ∷ ds) (t ∷ ss) n a k h z =
     elim (cases-bool (overlaps (come e t a .release))) [
-      inl y ↦
-        let q : n ≡ k = rw y at h in
-        let b = and-parts (come e t a .arrives) (isSome (t .job)) (sym (overlap-is (come e t a .arrives) (t .job)) ∙ y) in
-        record {
-          x-index = 0; x-number = omega arith; x-view = e; x-state = t; x-in-views = refl; x-in-tasks = refl;
-          x-arrives = b .0; x-has = some-is (t .job) (b .1);
-          x-first = λ i d s p. elim (let no : ⊥ = omega arith in no) [ ];
-        }
-    | inr y ↦
-        let h′ : overlapping (n + 1) ds ss (come e t a .left) ≡ k = rw y at h in
-        let r = crossing ds ss (n + 1) (come e t a .left) k h′ z in
-        record {
-          x-index = suc (r .x-index); x-number = omega (arith, r .x-number); x-view = r .x-view; x-state = r .x-state;
-          x-in-views = r .x-in-views; x-in-tasks = r .x-in-tasks; x-arrives = r .x-arrives; x-has = r .x-has;
-          x-first = elim [
-              zero ↦ λ d s p hd hs b.
-                let y′ = sym (overlap-is (come e t a .arrives) (t .job)) ∙ y in
-                let q : isSome (t .job) ≡ false = rw b at y′ in
-                let se : t ≡ s = cc in
-                rw (sym se) (none-is (t .job) q)
-            | suc i ↦ λ d s p hd hs b. r .x-first i d s (omega arith) hd hs b ];
-        } ]
+      | inl y ↦
+          let q : n ≡ k = rw y at h in
+          let b = and-parts (come e t a .arrives) (isSome (t .job)) (sym (overlap-is (come e t a .arrives) (t .job)) ∙ y) in
+          record {
+            x-index = 0;
+            x-number = omega arith;
+            x-view = e;
+            x-state = t;
+            x-in-views = refl;
+            x-in-tasks = refl;
+            x-arrives = b .0;
+            x-has = some-is (t .job) (b .1);
+            x-first = λ i d s p. elim (let no : ⊥ = omega arith in no) [ ];
+          }
+      | inr y ↦
+          let h′ : overlapping (n + 1) ds ss (come e t a .left) ≡ k = rw y at h in
+          let r = crossing ds ss (n + 1) (come e t a .left) k h′ z in
+          record {
+            x-index = suc (r .x-index);
+            x-number = omega (arith, r .x-number);
+            x-view = r .x-view;
+            x-state = r .x-state;
+            x-in-views = r .x-in-views;
+            x-in-tasks = r .x-in-tasks;
+            x-arrives = r .x-arrives;
+            x-has = r .x-has;
+            x-first = elim [
+              | zero ↦ λ d s p hd hs b.
+                  let y′ = sym (overlap-is (come e t a .arrives) (t .job)) ∙ y in
+                  let q : isSome (t .job) ≡ false = rw b at y′ in
+                  let se : t ≡ s = cc in
+                  rw (sym se) (none-is (t .job) q)
+              | suc i ↦ λ d s p hd hs b. r .x-first i d s (omega arith) hd hs b
+            ];
+          }
+    ]
 
 -- the first task that is late
 pub record Staying-job (ds : List TaskView) (ss : List TaskState) (pick : ℕ) (stay : Bool) (n k : ℕ) : Type 0 where
@@ -203,30 +222,42 @@ staying-job [] ss pick stay n k h z = elim (z (sym h)) [ ]
 staying-job (e ∷ ds) [] pick stay n k h z = elim (z (sym h)) [ ]
 staying-job (e ∷ ds) (t ∷ ss) pick stay n k h z =
     elim (cases-bool (serve (eqb n pick) stay e t .late)) [
-      inl y ↦
-        let q : n ≡ k = rw y at h in
-        record {
-          y-index = 0; y-number = omega arith; y-view = e; y-state = t; y-in-views = refl; y-in-tasks = refl;
-          y-late = rw (sym q) y;
-          y-first = λ i j d s p. elim (let no : ⊥ = omega arith in no) [ ];
-        }
-    | inr y ↦
-        let h′ : serve-all pick stay (n + 1) ds ss .late ≡ k = rw y at h in
-        let r = staying-job ds ss pick stay (n + 1) k h′ z in
-        record {
-          y-index = suc (r .y-index); y-number = omega (arith, r .y-number); y-view = r .y-view; y-state = r .y-state;
-          y-in-views = r .y-in-views; y-in-tasks = r .y-in-tasks; y-late = r .y-late;
-          y-first = elim [
-              zero ↦ λ j d s p hj hd hs.
-                let je : j ≡ n = omega arith in
-                let de : e ≡ d = cc in
-                let se : t ≡ s = cc in
-                rw (je, sym de, sym se) y
-            | suc i ↦ λ j d s p hj hd hs. r .y-first i j d s (omega arith) (omega arith) hd hs ];
-        } ]
+      | inl y ↦
+          let q : n ≡ k = rw y at h in
+          record {
+            y-index = 0;
+            y-number = omega arith;
+            y-view = e;
+            y-state = t;
+            y-in-views = refl;
+            y-in-tasks = refl;
+            y-late = rw (sym q) y;
+            y-first = λ i j d s p. elim (let no : ⊥ = omega arith in no) [ ];
+          }
+      | inr y ↦
+          let h′ : serve-all pick stay (n + 1) ds ss .late ≡ k = rw y at h in
+          let r = staying-job ds ss pick stay (n + 1) k h′ z in
+          record {
+            y-index = suc (r .y-index);
+            y-number = omega (arith, r .y-number);
+            y-view = r .y-view;
+            y-state = r .y-state;
+            y-in-views = r .y-in-views;
+            y-in-tasks = r .y-in-tasks;
+            y-late = r .y-late;
+            y-first = elim [
+              | zero ↦ λ j d s p hj hd hs.
+                  let je : j ≡ n = omega arith in
+                  let de : e ≡ d = cc in
+                  let se : t ≡ s = cc in
+                  rw (je, sym de, sym se) y
+              | suc i ↦ λ j d s p hj hd hs. r .y-first i j d s (omega arith) (omega arith) hd hs
+            ];
+          }
+    ]
 
 pub sees-at : (ds : List TaskView) (ss : List TaskState) (i : ℕ) (d : TaskView) (s : TaskState) → nth ds i ≡ Some d → nth ss i ≡ Some s →
-  nth (sees ds ss) i ≡ Some (record { priority = d .priority; age = age-of (s .job) })
+    nth (sees ds ss) i ≡ Some (record { priority = d .priority; age = age-of (s .job) })
 sees-at [] ss i d s hd hs = let z : _≡_ {A = ℕ} 0 1 = cc in elim (let no : ⊥ = omega arith in no) [ ]
 sees-at (e ∷ ds) [] i d s hd hs = let z : _≡_ {A = ℕ} 0 1 = cc in elim (let no : ⊥ = omega arith in no) [ ]
 sees-at (e ∷ ds) (t ∷ ss) zero d s hd hs =
@@ -247,12 +278,15 @@ choose-same picked a b d p None = refl
 choose-same false a b d p (Some j) = refl
 choose-same true a b d p (Some j) =
     elim (cases-bool (leb (d .worst) (j .work + 1))) [
-      inl y ↦ rw y refl
-    | inr y ↦ elim (cases-bool (leb (d .best) (j .work + 1))) [
-        inl z ↦ elim (cases-bool a) [
-            inl u ↦ elim (cases-bool b) [ inl v ↦ rw (y, z, u, v) refl | inr v ↦ rw (y, z, u, v) refl ]
-          | inr u ↦ elim (cases-bool b) [ inl v ↦ rw (y, z, u, v) refl | inr v ↦ rw (y, z, u, v) refl ] ]
-      | inr z ↦ rw (y, z) refl ] ]
+      | inl y ↦ rw y refl
+      | inr y ↦ elim (cases-bool (leb (d .best) (j .work + 1))) [
+        | inl z ↦ elim (cases-bool a) [
+          | inl u ↦ elim (cases-bool b) [ inl v ↦ rw (y, z, u, v) refl | inr v ↦ rw (y, z, u, v) refl ]
+          | inr u ↦ elim (cases-bool b) [ inl v ↦ rw (y, z, u, v) refl | inr v ↦ rw (y, z, u, v) refl ]
+        ]
+        | inr z ↦ rw (y, z) refl
+      ]
+    ]
 
 pub choose-all : (ds : List TaskView) (ss : List TaskState) (pick : ℕ) (a b : Bool) (n : ℕ) → serve-all pick a n ds ss .«may_choose» ≡ serve-all pick b n ds ss .«may_choose»
 choose-all [] ss pick a b n = refl
@@ -261,7 +295,7 @@ choose-all (e ∷ ds) (t ∷ ss) pick a b n =
     rw (choose-same (eqb n pick) a b e (t .position) (t .job), choose-all ds ss pick a b (n + 1)) refl
 
 pub choose-at : (ds : List TaskView) (ss : List TaskState) (pick : ℕ) (stay : Bool) (n i k : ℕ) (d : TaskView) (s : TaskState) → k ≡ n + i →
-  nth ds i ≡ Some d → nth ss i ≡ Some s → serve (eqb k pick) stay d s .«may_choose» ≡ true → serve-all pick stay n ds ss .«may_choose» ≡ true
+    nth ds i ≡ Some d → nth ss i ≡ Some s → serve (eqb k pick) stay d s .«may_choose» ≡ true → serve-all pick stay n ds ss .«may_choose» ≡ true
 choose-at [] ss pick stay n i k d s hk hd hs h = let z : _≡_ {A = ℕ} 0 1 = cc in elim (let no : ⊥ = omega arith in no) [ ]
 choose-at (e ∷ ds) [] pick stay n i k d s hk hd hs h = let z : _≡_ {A = ℕ} 0 1 = cc in elim (let no : ⊥ = omega arith in no) [ ]
 choose-at (e ∷ ds) (t ∷ ss) pick stay n zero k d s hk hd hs h =
@@ -288,10 +322,11 @@ chooser [] ss pick stay n h = elim (both-ways false refl h) [ ]
 chooser (e ∷ ds) [] pick stay n h = elim (both-ways false refl h) [ ]
 chooser (e ∷ ds) (t ∷ ss) pick stay n h =
     elim (cases-bool (serve (eqb n pick) stay e t .«may_choose»)) [
-      inl y ↦ let z : n + 0 ≡ n = omega arith in
-        record { z-index = 0; z-view = e; z-state = t; z-in-views = refl; z-in-tasks = refl; z-may = rw z y }
-    | inr y ↦
-        let h′ : serve-all pick stay (n + 1) ds ss .«may_choose» ≡ true = rw y at h in
-        let r = chooser ds ss pick stay (n + 1) h′ in
-        let z : n + suc (r .z-index) ≡ n + 1 + r .z-index = omega arith in
-        record { z-index = suc (r .z-index); z-view = r .z-view; z-state = r .z-state; z-in-views = r .z-in-views; z-in-tasks = r .z-in-tasks; z-may = rw z (r .z-may) } ]
+      | inl y ↦ let z : n + 0 ≡ n = omega arith in
+          record { z-index = 0; z-view = e; z-state = t; z-in-views = refl; z-in-tasks = refl; z-may = rw z y }
+      | inr y ↦
+          let h′ : serve-all pick stay (n + 1) ds ss .«may_choose» ≡ true = rw y at h in
+          let r = chooser ds ss pick stay (n + 1) h′ in
+          let z : n + suc (r .z-index) ≡ n + 1 + r .z-index = omega arith in
+          record { z-index = suc (r .z-index); z-view = r .z-view; z-state = r .z-state; z-in-views = r .z-in-views; z-in-tasks = r .z-in-tasks; z-may = rw z (r .z-may) }
+    ]

@@ -39,6 +39,7 @@ use Rattle.runs.proofs.Steps.{Does-task, does-task}
 
 pub at-zero : (s : Event) (ss : List Event) (f : ℕ → Event) (n : ℕ) → event-at (s ∷ ss) (n - n) ≡ f n → s ≡ f n
 at-zero s ss f n h = let z : n - n ≡ 0 = omega arith in rw z at h
+
 pub at-suc : (s : Event) (ss : List Event) (f : ℕ → Event) (n i : ℕ) → n + 1 ≤ i → event-at (s ∷ ss) (i - n) ≡ f i → event-at ss (i - (n + 1)) ≡ f i
 at-suc s ss f n i p h = let z : i - n ≡ suc (i - (n + 1)) = omega arith in rw z at h
 
@@ -58,22 +59,23 @@ module _ (ds : List TaskView) (picks : Picks) (proper : Proper ds) where
     did k d t = does-task ds picks k d t m way (f n) (know k d t .0) c (know k d t .1)
 
     ones : (k : ℕ) (d : TaskView) (t : Is-task ds k d) →
-      One f k d (timed-of k d t) n (serve (is-picked (f n) k) (stays ds picks m way) d (did k d t .mid) .state .job) (serve (is-picked (f n) k) (stays ds picks m way) d (did k d t .mid) .late)
+        One f k d (timed-of k d t) n (serve (is-picked (f n) k) (stays ds picks m way) d (did k d t .mid) .state .job) (serve (is-picked (f n) k) (stays ds picks m way) d (did k d t .mid) .late)
     ones k d t =
         one-slot f k d (timed-of k d t) n (did k d t .mid .position) (stays ds picks m way) (know k d t .0 .job) (did k d t .mid .job)
-          (did k d t .t-job) (know k d t .2) (did k d t .t-fresh) (did k d t .t-response)
+        (did k d t .t-job) (know k d t .2) (did k d t .t-fresh) (did k d t .t-response)
 
     pub clear-law : Law f n
     clear-law k d t = ones k d t .law
 
     pub clear-know : (m′ : StateView) → round ds picks m way .late ≡ 0 → m′ .tasks ≡ round ds picks m way .tasks → Know f (n + 1) m′
-    clear-know m′ z e k d t =
-        (serve (is-picked (f n) k) (stays ds picks m way) d (did k d t .mid) .state,
-         rw e (did k d t .t-next),
-         ones k d t .onward (did k d t .t-late z))
+    clear-know m′ z e k d t = (
+      serve (is-picked (f n) k) (stays ds picks m way) d (did k d t .mid) .state,
+      rw e (did k d t .t-next),
+      ones k d t .onward (did k d t .t-late z),
+    )
 
     pub clear-expires : (k : ℕ) (d : TaskView) (t : Is-task ds k d) → serve (is-picked (f n) k) (stays ds picks m way) d (did k d t .mid) .late ≡ true →
-      (a : ℕ) × Pending-before f k a (n + 1) × (n + 1 ≡ a + d .deadline)
+        (a : ℕ) × Pending-before f k a (n + 1) × (n + 1 ≡ a + d .deadline)
     clear-expires k d t h = ones k d t .expires h
 
     pub clear-timely : (k : ℕ) → (e : Misses-deadline ds f k n) → serve (is-picked (f n) k) (stays ds picks m way) (e .e-view) (did k (e .e-view) (e .e-task) .mid) .late ≡ false → ⊥
@@ -93,10 +95,11 @@ module _ (ds : List TaskView) (picks : Picks) (proper : Proper ds) where
     pub clear-view : Seen-as-shown ds f n (sees ds (come-to ds picks m way))
     clear-view = record {
       seen-task = λ k d t.
-        let mid = did k d t .mid in
-        (age-of (mid .job),
-         sees-at ds (come-to ds picks m way) (k - 1) d mid (t .here) (did k d t .t-mid),
-         age-as-shown f k d (timed-of k d t) n (know k d t .0 .job) (mid .job) (did k d t .t-job) (know k d t .2) (did k d t .t-fresh));
+          let mid = did k d t .mid in (
+            age-of (mid .job),
+            sees-at ds (come-to ds picks m way) (k - 1) d mid (t .here) (did k d t .t-mid),
+            age-as-shown f k d (timed-of k d t) n (know k d t .0 .job) (mid .job) (did k d t .t-job) (know k d t .2) (did k d t .t-fresh),
+          );
       only = sees-only ds (come-to ds picks m way);
     }
 
@@ -126,24 +129,32 @@ module _ (ds : List TaskView) (picks : Picks) (proper : Proper ds) where
     pub a-kind : Clear ds picks a-state a-way (f i) ⊎ ((k : ℕ) × (c : Cause) × Crossed ds picks a-state a-way (f i) k c)
 
   slots : {m : StateView} {ways : List ℕ} {trace : List Event} {end : Ending} → RunFrom ds picks m ways trace end →
-    (f : ℕ → Event) (n : ℕ) → ((i : ℕ) → n ≤ i → i < n + length trace → event-at trace (i - n) ≡ f i) → Know f n m → m .last ≡ last-runner f n →
-    (i : ℕ) → n ≤ i → i < n + length trace → At f i
+      (f : ℕ → Event) (n : ℕ) → ((i : ℕ) → n ≤ i → i < n + length trace → event-at trace (i - n) ≡ f i) → Know f n m → m .last ≡ last-runner f n →
+      (i : ℕ) → n ≤ i → i < n + length trace → At f i
   slots empty f n agree know la i p q = elim (let no : ⊥ = omega arith in no) [ ]
   slots (last-late {m = m} {way = way} {k = k} {c = c} {e = e} h) f n agree know la i p q =
       let here : event ds picks m way ≡ f n = at-zero (event ds picks m way) [] f n (agree n (omega arith) (omega arith)) in
       let ie : i ≡ n = omega arith in
-      rw ie (record { a-state = m; a-way = way; a-know = know; a-last = la; a-kind =
-        elim (late-went ds picks m way k c e h) [
-          inl w ↦ let w′ : Crossed ds picks m way (f n) k c = rw here at w in inr (k, c, w′)
-        | inr w ↦ let w′ : Tardy ds picks m way (f n) k c = rw here at w in inl (w′ .clear) ] })
+      rw ie (record {
+        a-state = m;
+        a-way = way;
+        a-know = know;
+        a-last = la;
+        a-kind =
+            elim (late-went ds picks m way k c e h) [
+              | inl w ↦ let w′ : Crossed ds picks m way (f n) k c = rw here at w in inr (k, c, w′)
+              | inr w ↦ let w′ : Tardy ds picks m way (f n) k c = rw here at w in inl (w′ .clear)
+            ];
+      })
   slots (way-then {m = m} {m′ = m′} {way = way} {e = e} {trace = trace} h g) f n agree know la i p q =
       let here : event ds picks m way ≡ f n = at-zero (event ds picks m way) trace f n (agree n (omega arith) (omega arith)) in
       let w : Onward ds picks m way (f n) m′ = rw here at (next-went ds picks m way m′ e h) in
       elim (cases-eq i n) [
-        inl ie ↦ rw ie (record { a-state = m; a-way = way; a-know = know; a-last = la; a-kind = inl (w .clear) })
-      | inr ie ↦
-        slots g f (n + 1) (λ i p q. at-suc (event ds picks m way) trace f n i p (agree i (omega arith) (omega arith)))
-          (clear-know f n m way (w .clear) know m′ (w .timely) (w .tasks-are)) (last-next f n m m′ way w) i (omega arith) (omega arith) ]
+        | inl ie ↦ rw ie (record { a-state = m; a-way = way; a-know = know; a-last = la; a-kind = inl (w .clear) })
+        | inr ie ↦
+            slots g f (n + 1) (λ i p q. at-suc (event ds picks m way) trace f n i p (agree i (omega arith) (omega arith)))
+            (clear-know f n m way (w .clear) know m′ (w .timely) (w .tasks-are)) (last-next f n m m′ way w) i (omega arith) (omega arith)
+      ]
 
   -- a slot in which nothing is late
   pub record Calm (f : ℕ → Event) (n : ℕ) : Type 0 where
@@ -176,8 +187,13 @@ module _ (ds : List TaskView) (picks : Picks) (proper : Proper ds) where
   longer : (f : ℕ → Event) (n n′ : ℕ) (end : Ending) → Calm f n → Final f (n + 1) n′ end → Final f n n′ end
   longer f n n′ (ends-in m) c r = record { r-know = r .r-know; r-calm = wider f n n′ c (r .r-calm) }
   longer f n n′ (ends-late k x) c r = record {
-    l-slot = r .l-slot; l-is = r .l-is; l-calm = wider f n (r .l-slot) c (r .l-calm);
-    l-state = r .l-state; l-way = r .l-way; l-know = r .l-know; l-late = r .l-late;
+    l-slot = r .l-slot;
+    l-is = r .l-is;
+    l-calm = wider f n (r .l-slot) c (r .l-calm);
+    l-state = r .l-state;
+    l-way = r .l-way;
+    l-know = r .l-know;
+    l-late = r .l-late;
   }
 
   pub record Told (f : ℕ → Event) (n n′ : ℕ) (end : Ending) : Type 0 where
@@ -192,30 +208,31 @@ module _ (ds : List TaskView) (picks : Picks) (proper : Proper ds) where
       lives-young f k d (timed-of k d t) n (know′ k d t .0 .job) (know′ k d t .2) (x .e-since, x .e-pending, x .e-reached)
 
   pub follow : {m : StateView} {ways : List ℕ} {trace : List Event} {end : Ending} → RunFrom ds picks m ways trace end →
-    (f : ℕ → Event) (n : ℕ) → ((i : ℕ) → n ≤ i → i < n + length trace → event-at trace (i - n) ≡ f i) → Know f n m →
-    Told f n (n + length trace) end
+      (f : ℕ → Event) (n : ℕ) → ((i : ℕ) → n ≤ i → i < n + length trace → event-at trace (i - n) ≡ f i) → Know f n m →
+      Told f n (n + length trace) end
   follow empty f n agree know =
       let e : n ≡ n + 0 = omega arith in
       record { laws = λ i p q. elim (let no : ⊥ = omega arith in no) [ ]; final = rw (sym e) (record { r-know = know; r-calm = λ i p q. elim (let no : ⊥ = omega arith in no) [ ] }) }
   follow (last-late {m = m} {way = way} {k = k} {c = c} {e = e} h) f n agree know =
       let here : event ds picks m way ≡ f n = at-zero (event ds picks m way) [] f n (agree n (omega arith) (omega arith)) in
       elim (late-went ds picks m way k c e h) [
-        inl w ↦
-          let w′ : Crossed ds picks m way (f n) k c = rw here at w in
-          record {
-            laws = λ i p q k′ d t x r.
-              let ie : i ≡ n = omega arith in
-              let r′ : of-task k′ (f n .ended) ≡ Some x = rw ie at r in
-              let r″ : None ≡ Some x = sym (ap (of-task k′) (w′ .x-ended)) ∙ r′ in
-              let z : _≡_ {A = ℕ} 0 1 = cc in elim (let no : ⊥ = omega arith in no) [ ];
-            final = record { l-slot = n; l-is = refl; l-calm = λ i p q. elim (let no : ⊥ = omega arith in no) [ ]; l-state = m; l-way = way; l-know = know; l-late = inl w′ };
-          }
-      | inr w ↦
-          let w′ : Tardy ds picks m way (f n) k c = rw here at w in
-          record {
-            laws = λ i p q. let ie : i ≡ n = omega arith in rw ie (clear-law f n m way (w′ .clear) know);
-            final = record { l-slot = n; l-is = refl; l-calm = λ i p q. elim (let no : ⊥ = omega arith in no) [ ]; l-state = m; l-way = way; l-know = know; l-late = inr w′ };
-          } ]
+        | inl w ↦
+            let w′ : Crossed ds picks m way (f n) k c = rw here at w in
+            record {
+              laws = λ i p q k′ d t x r.
+                  let ie : i ≡ n = omega arith in
+                  let r′ : of-task k′ (f n .ended) ≡ Some x = rw ie at r in
+                  let r″ : None ≡ Some x = sym (ap (of-task k′) (w′ .x-ended)) ∙ r′ in
+                  let z : _≡_ {A = ℕ} 0 1 = cc in elim (let no : ⊥ = omega arith in no) [ ];
+              final = record { l-slot = n; l-is = refl; l-calm = λ i p q. elim (let no : ⊥ = omega arith in no) [ ]; l-state = m; l-way = way; l-know = know; l-late = inl w′ };
+            }
+        | inr w ↦
+            let w′ : Tardy ds picks m way (f n) k c = rw here at w in
+            record {
+              laws = λ i p q. let ie : i ≡ n = omega arith in rw ie (clear-law f n m way (w′ .clear) know);
+              final = record { l-slot = n; l-is = refl; l-calm = λ i p q. elim (let no : ⊥ = omega arith in no) [ ]; l-state = m; l-way = way; l-know = know; l-late = inr w′ };
+            }
+      ]
   follow (way-then {m = m} {m′ = m′} {way = way} {e = e} {ways = ways} {trace = trace} {end = end} h g) f n agree know =
       let here : event ds picks m way ≡ f n = at-zero (event ds picks m way) trace f n (agree n (omega arith) (omega arith)) in
       let w : Onward ds picks m way (f n) m′ = rw here at (next-went ds picks m way m′ e h) in
@@ -230,10 +247,11 @@ module _ (ds : List TaskView) (picks : Picks) (proper : Proper ds) where
       }
 
   pub know-first : (f : ℕ → Event) → Know f 0 (start-state ds)
-  know-first f k d t =
-      (record { position = d .stream .first; job = None },
-       firsts-at ds (replicate 8 (record { position = 0; job = None })) (k - 1) d (proper .few) (t .here),
-       record { closed = λ a p q. elim (let no : ⊥ = omega arith in no) [ ] })
+  know-first f k d t = (
+    record { position = d .stream .first; job = None },
+    firsts-at ds (replicate 8 (record { position = 0; job = None })) (k - 1) d (proper .few) (t .here),
+    record { closed = λ a p q. elim (let no : ⊥ = omega arith in no) [ ] },
+  )
 
   pub slot-of : {ways : List ℕ} (trace : List Event) {end : Ending} → Run ds picks ways trace end → (i : ℕ) → i < length trace → At (event-at trace) i
   slot-of trace r i p =
@@ -248,11 +266,12 @@ module _ (ds : List TaskView) (picks : Picks) (proper : Proper ds) where
 pub responses-stand : (ds : List TaskView) (picks : Picks) → Proper ds → Response-law ds picks
 responses-stand ds picks proper ways trace end r k d t n x h =
     elim (cases-lt n (length trace)) [
-      inl p ↦ told ds picks proper trace r .laws n (omega arith) p k d t x h
-    | inr p ↦
-      let e : event-at trace n ≡ blank = getD-past trace n blank p in
-      let h′ : None ≡ Some x = sym (ap (λ s. response s k) e) ∙ h in
-      let z : _≡_ {A = ℕ} 0 1 = cc in elim (let no : ⊥ = omega arith in no) [ ] ]
+      | inl p ↦ told ds picks proper trace r .laws n (omega arith) p k d t x h
+      | inr p ↦
+          let e : event-at trace n ≡ blank = getD-past trace n blank p in
+          let h′ : None ≡ Some x = sym (ap (λ s. response s k) e) ∙ h in
+          let z : _≡_ {A = ℕ} 0 1 = cc in elim (let no : ⊥ = omega arith in no) [ ]
+    ]
 
 -- what stands at the end
 job-as-shown : (f : ℕ → Event) (k : ℕ) (d : TaskView) (t : Timed d) (n : ℕ) (o : Option Job) → Lives f k d t n o → Job-as-shown f k d n o

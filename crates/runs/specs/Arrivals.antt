@@ -15,4 +15,4 @@ arrivals-of trace k = map (λ e. arrives e k) trace
 -- They are a pattern of its stream.
 abbrev pub Arrivals-law : List TaskView → Picks → Type 0
 Arrivals-law ts picks = (ways : List ℕ) (trace : List Event) (end : Ending) → Run ts picks ways trace end →
-  (k : ℕ) (t : TaskView) → Is-task ts k t → Shown (t .stream) (arrivals-of trace k)
+    (k : ℕ) (t : TaskView) → Is-task ts k t → Shown (t .stream) (arrivals-of trace k)

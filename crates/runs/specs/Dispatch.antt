@@ -25,7 +25,7 @@ Age-as-shown f k n (Some x) = (x ≤ n) × Pending-in f k (n - x) n
 -- What the rule sees in slot n: of each task its priority and the age of its job, and no more.
 pub record Seen-as-shown (ts : List TaskView) (f : ℕ → Event) (n : ℕ) (seen : List Seen) : Type 0 where
   pub seen-task : (k : ℕ) (t : TaskView) → Is-task ts k t →
-    (age : Option ℕ) × (nth seen (k - 1) ≡ Some (record { priority = t .priority; age = age })) × Age-as-shown f k n age
+      (age : Option ℕ) × (nth seen (k - 1) ≡ Some (record { priority = t .priority; age = age })) × Age-as-shown f k n age
   pub only : (i : ℕ) (s : Seen) → nth seen i ≡ Some s → (t : TaskView) × (nth ts i ≡ Some t)
 
 -- Before slot n the last runner is the task picked in the slot before, unless a job ended there.
@@ -40,8 +40,8 @@ No-overlap ts f n = (k : ℕ) → Overlaps ts f k n → ⊥
 -- In each slot without an overlap the task picked is what the rule picks of the jobs that stand and the last runner.
 abbrev pub Dispatch-law : List TaskView → Picks → Type 0
 Dispatch-law ts picks = (ways : List ℕ) (trace : List Event) (end : Ending) → Run ts picks ways trace end →
-  (n : ℕ) → n < length trace → No-overlap ts (event-at trace) n →
-  (seen : List Seen) × Seen-as-shown ts (event-at trace) n seen × (event-at trace n .picked ≡ picks seen (last-runner (event-at trace) n))
+    (n : ℕ) → n < length trace → No-overlap ts (event-at trace) n →
+    (seen : List Seen) × Seen-as-shown ts (event-at trace) n seen × (event-at trace n .picked ≡ picks seen (last-runner (event-at trace) n))
 
 -- Of the jobs that stand in slot n, that of the greatest priority is picked, and among equals that of the smaller task.
 pub record Highest (ts : List TaskView) (f : ℕ → Event) (k : ℕ) (t : TaskView) (n : ℕ) : Type 0 where
@@ -53,8 +53,8 @@ pub record Highest (ts : List TaskView) (f : ℕ → Event) (k : ℕ) (t : TaskV
 
 abbrev pub Priority-law : List TaskView → Picks → Type 0
 Priority-law ts picks = picks ≡ by-priority → (ways : List ℕ) (trace : List Event) (end : Ending) → Run ts picks ways trace end →
-  (n : ℕ) → n < length trace → No-overlap ts (event-at trace) n →
-  (k : ℕ) (t : TaskView) (a : ℕ) → Is-task ts k t → Pending-in (event-at trace) k a n → Highest ts (event-at trace) k t n
+    (n : ℕ) → n < length trace → No-overlap ts (event-at trace) n →
+    (k : ℕ) (t : TaskView) (a : ℕ) → Is-task ts k t → Pending-in (event-at trace) k a n → Highest ts (event-at trace) k t n
 
 -- Of the jobs that stand in slot n, the one that arrived first is picked, and among equals that of the smaller task.
 pub record Oldest (ts : List TaskView) (f : ℕ → Event) (k a n : ℕ) : Type 0 where
@@ -66,5 +66,5 @@ pub record Oldest (ts : List TaskView) (f : ℕ → Event) (k a n : ℕ) : Type 
 
 abbrev pub Waiting-law : List TaskView → Picks → Type 0
 Waiting-law ts picks = picks ≡ by-age → (ways : List ℕ) (trace : List Event) (end : Ending) → Run ts picks ways trace end →
-  (n : ℕ) → n < length trace → No-overlap ts (event-at trace) n →
-  (k : ℕ) (t : TaskView) (a : ℕ) → Is-task ts k t → Pending-in (event-at trace) k a n → Oldest ts (event-at trace) k a n
+    (n : ℕ) → n < length trace → No-overlap ts (event-at trace) n →
+    (k : ℕ) (t : TaskView) (a : ℕ) → Is-task ts k t → Pending-in (event-at trace) k a n → Oldest ts (event-at trace) k a n

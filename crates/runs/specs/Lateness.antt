@@ -34,8 +34,8 @@ Job-as-shown f k t n (Some j) = Unfinished f k t n j
 
 abbrev pub Unfinished-law : List TaskView → Picks → Type 0
 Unfinished-law ts picks = (ways : List ℕ) (trace : List Event) (m : StateView) → Run ts picks ways trace (ends-in m) →
-  (k : ℕ) (t : TaskView) → Is-task ts k t →
-  (s : TaskState) × (nth (m .tasks) (k - 1) ≡ Some s) × Job-as-shown (event-at trace) k t (length trace) (s .job)
+    (k : ℕ) (t : TaskView) → Is-task ts k t →
+    (s : TaskState) × (nth (m .tasks) (k - 1) ≡ Some s) × Job-as-shown (event-at trace) k t (length trace) (s .job)
 
 -- In slot n an arrival of task k meets its job.
 pub record Overlaps (ts : List TaskView) (f : ℕ → Event) (k n : ℕ) : Type 0 where
@@ -64,11 +64,11 @@ pub record Smallest (P : ℕ → ℕ → Type 0) (trace : List Event) (k n : ℕ
 pub record Lateness (ts : List TaskView) (trace : List Event) (end : Ending) : Type 0 where
   pub overlap-then : (k : ℕ) → end ≡ ends-late k Overlap → (n : ℕ) × Smallest (Overlaps ts (event-at trace)) trace k n
   pub overlap-if : (k n : ℕ) → n < length trace → Overlaps ts (event-at trace) k n →
-    (i : ℕ) × (end ≡ ends-late i Overlap) × (length trace ≡ n + 1)
+      (i : ℕ) × (end ≡ ends-late i Overlap) × (length trace ≡ n + 1)
   pub deadline-then : (k : ℕ) → end ≡ ends-late k Deadline →
-    (n : ℕ) × Smallest (Misses-deadline ts (event-at trace)) trace k n × ((i : ℕ) → Overlaps ts (event-at trace) i n → ⊥)
+      (n : ℕ) × Smallest (Misses-deadline ts (event-at trace)) trace k n × ((i : ℕ) → Overlaps ts (event-at trace) i n → ⊥)
   pub deadline-if : (k n : ℕ) → n < length trace → Misses-deadline ts (event-at trace) k n → ((i : ℕ) → Overlaps ts (event-at trace) i n → ⊥) →
-    (i : ℕ) × (end ≡ ends-late i Deadline) × (length trace ≡ n + 1)
+      (i : ℕ) × (end ≡ ends-late i Deadline) × (length trace ≡ n + 1)
 
 abbrev pub Lateness-law : List TaskView → Picks → Type 0
 Lateness-law ts picks = (ways : List ℕ) (trace : List Event) (end : Ending) → Run ts picks ways trace end → Lateness ts trace end

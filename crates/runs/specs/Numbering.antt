@@ -30,11 +30,11 @@ pub record Chooses (ts : List TaskView) (f : ℕ → Event) (n : ℕ) : Type 0 w
 pub record Numbered (ts : List TaskView) (picks : Picks) (trace : List Event) (m : StateView) : Type 0 where
   pub plain : (w : ℕ) → w < choices ts (m .tasks) → slot ts picks m w ≡ Void → ⊥
   pub stay-if : (w : ℕ) → w < choices ts (m .tasks) → Chooses ts (event-at (trace ++ (event ts picks m w ∷ []))) (length trace) →
-    slot ts picks m (1 * choices ts (m .tasks) + w) ≡ Void → ⊥
+      slot ts picks m (1 * choices ts (m .tasks) + w) ≡ Void → ⊥
   pub stay-then : (w : ℕ) → w < choices ts (m .tasks) → (slot ts picks m (1 * choices ts (m .tasks) + w) ≡ Void → ⊥) →
-    Chooses ts (event-at (trace ++ (event ts picks m w ∷ []))) (length trace)
+      Chooses ts (event-at (trace ++ (event ts picks m w ∷ []))) (length trace)
   pub beyond : (w : ℕ) → 2 * choices ts (m .tasks) ≤ w → slot ts picks m w ≡ Void
 
 abbrev pub Numbering-law : List TaskView → Picks → Type 0
 Numbering-law ts picks = (ways : List ℕ) (trace : List Event) (m : StateView) → Run ts picks ways trace (ends-in m) →
-  Numbered ts picks trace m
+    Numbered ts picks trace m

@@ -29,5 +29,5 @@ pub record Responds (f : ℕ → Event) (k : ℕ) (t : TaskView) (n x : ℕ) : T
 
 abbrev pub Response-law : List TaskView → Picks → Type 0
 Response-law ts picks = (ways : List ℕ) (trace : List Event) (end : Ending) → Run ts picks ways trace end →
-  (k : ℕ) (t : TaskView) → Is-task ts k t →
-  (n x : ℕ) → response (event-at trace n) k ≡ Some x → Responds (event-at trace) k t n x
+    (k : ℕ) (t : TaskView) → Is-task ts k t →
+    (n x : ℕ) → response (event-at trace n) k ≡ Some x → Responds (event-at trace) k t n x

@@ -40,10 +40,10 @@ pub data Ending : Type 0 where
 pub data RunFrom (ts : List TaskView) (picks : Picks) : StateView → List ℕ → List Event → Ending → Type 0 where
   empty : {m : StateView} → RunFrom ts picks m [] [] (ends-in m)
   last-late : {m : StateView} {way k : ℕ} {c : Cause} {e : Option Ended} → slot ts picks m way ≡ Late k c e →
-    RunFrom ts picks m (way ∷ []) (event ts picks m way ∷ []) (ends-late k c)
+      RunFrom ts picks m (way ∷ []) (event ts picks m way ∷ []) (ends-late k c)
   way-then : {m m′ : StateView} {way : ℕ} {e : Option Ended} {ways : List ℕ} {trace : List Event} {end : Ending} →
-    slot ts picks m way ≡ Next m′ e → RunFrom ts picks m′ ways trace end →
-    RunFrom ts picks m (way ∷ ways) (event ts picks m way ∷ trace) end
+      slot ts picks m way ≡ Next m′ e → RunFrom ts picks m′ ways trace end →
+      RunFrom ts picks m (way ∷ ways) (event ts picks m way ∷ trace) end
 
 -- A run of a plan begins at its start.
 abbrev pub Run : List TaskView → Picks → List ℕ → List Event → Ending → Type 0

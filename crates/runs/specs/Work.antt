@@ -19,13 +19,13 @@ use Rattle.runs.specs.Arrivals.{arrivals-of}
 -- In slot n a job that is picked for its worst time ends, and one that is picked for less than its best time stays.
 pub record Work-bounds (ts : List TaskView) (f : ℕ → Event) (n : ℕ) : Type 0 where
   pub ends : (k : ℕ) (t : TaskView) (a : ℕ) → Is-task ts k t → Pending-in f k a n → is-picked (f n) k ≡ true →
-    t .worst ≤ executed f k a (n + 1 - a) → response (f n) k ≡ Some (n + 1 - a)
+      t .worst ≤ executed f k a (n + 1 - a) → response (f n) k ≡ Some (n + 1 - a)
   pub stays : (k : ℕ) (t : TaskView) (a : ℕ) → Is-task ts k t → Pending-in f k a n → is-picked (f n) k ≡ true →
-    executed f k a (n + 1 - a) < t .best → response (f n) k ≡ None
+      executed f k a (n + 1 - a) < t .best → response (f n) k ≡ None
 
 abbrev pub Work-law : List TaskView → Picks → Type 0
 Work-law ts picks = (ways : List ℕ) (trace : List Event) (end : Ending) → Run ts picks ways trace end →
-  (n : ℕ) → n < length trace → Work-bounds ts (event-at trace) n
+    (n : ℕ) → n < length trace → Work-bounds ts (event-at trace) n
 
 -- Of each task's stream a run of n ways is chosen.
 abbrev pub Chosen : List TaskView → (ℕ → List ℕ) → ℕ → Type 0
@@ -35,8 +35,8 @@ Chosen ts choice n = (k : ℕ) (t : TaskView) → Is-task ts k t → IsRun (t .s
 -- stay, and else it ends.
 abbrev pub Obeyed : List TaskView → (ℕ → Event) → Bool → ℕ → Type 0
 Obeyed ts f stay n = (k : ℕ) (t : TaskView) (a : ℕ) → Is-task ts k t → Pending-in f k a n → is-picked (f n) k ≡ true →
-  t .best ≤ executed f k a (n + 1 - a) → executed f k a (n + 1 - a) < t .worst →
-  (stay ≡ true → response (f n) k ≡ None) × (stay ≡ false → response (f n) k ≡ Some (n + 1 - a))
+    t .best ≤ executed f k a (n + 1 - a) → executed f k a (n + 1 - a) < t .worst →
+    (stay ≡ true → response (f n) k ≡ None) × (stay ≡ false → response (f n) k ≡ Some (n + 1 - a))
 
 abbrev pub Is-late : Ending → Type 0
 Is-late (ends-in m) = ⊥

@@ -28,7 +28,12 @@ pub struct Replayed {
 }
 
 // Walks a list of ways from the start and writes what each slot shows.
-pub fn replay<S: Stream, D: Dispatch>(plan: &Plan<S>, rule: &D, ways: &[u32], trace: &mut [Event]) -> Replayed
+pub fn replay<S: Stream, D: Dispatch>(
+    plan: &Plan<S>,
+    rule: &D,
+    ways: &[u32],
+    trace: &mut [Event],
+) -> Replayed
     ensures value { λ r. ⌜ Replays (task-views (S·Stream .meaning) (now (plan .entry) .tasks)) (D·Dispatch .picks (now (rule .entry))) (now (ways .entry)) (now (trace .entry)) (now (trace .exit)) r ⌝ }
     ensures laws { λ _. ⌜ Run-laws (task-views (S·Stream .meaning) (now (plan .entry) .tasks)) (D·Dispatch .picks (now (rule .entry))) ⌝ }
 {
@@ -37,16 +42,32 @@ pub fn replay<S: Stream, D: Dispatch>(plan: &Plan<S>, rule: &D, ways: &[u32], tr
     for i in 0..most {
         let event = walk::observe(plan, rule, &state, ways[i]);
         match walk::walk(plan, rule, &state, ways[i]) {
-            Outcome::Void => return Replayed { slots: i, stop: Stop::Void },
-            Outcome::Late { task, cause, ended: _ended } => {
+            Outcome::Void => return Replayed {
+                slots: i,
+                stop: Stop::Void,
+            },
+            Outcome::Late {
+                task,
+                cause,
+                ended: _ended,
+            } => {
                 trace[i] = event;
-                return Replayed { slots: i + 1, stop: Stop::Late { task, cause } };
+                return Replayed {
+                    slots: i + 1,
+                    stop: Stop::Late { task, cause },
+                };
             }
-            Outcome::Next { state: after, ended: _ended } => {
+            Outcome::Next {
+                state: after,
+                ended: _ended,
+            } => {
                 trace[i] = event;
                 state = after;
             }
         }
     }
-    Replayed { slots: most, stop: Stop::End { state } }
+    Replayed {
+        slots: most,
+        stop: Stop::End { state },
+    }
 }

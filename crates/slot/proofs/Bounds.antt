@@ -47,31 +47,36 @@ sane meaning (None ∷ ts) = tt
 sane meaning (Some t ∷ ts) = (t .times .fit, t .times .soon, sane meaning ts)
 
 serve-bounded : (picked stay : Bool) (d : TaskView) (p : ℕ) (o : Option Job) → d .worst ≤ d .deadline → d .deadline ≤ deadline-limit → Job-bounded o →
-  serve-job picked stay d p o .late ≡ false → Job-bounded (serve-job picked stay d p o .state .job)
+    serve-job picked stay d p o .late ≡ false → Job-bounded (serve-job picked stay d p o .state .job)
 serve-bounded picked stay d p None hm hd b h = tt
 serve-bounded false stay d p (Some j) hm hd b h = (b .0, omega (arith, leb-false (d .deadline) (j .age + 1) h))
 serve-bounded true stay d p (Some j) hm hd b h =
     elim (cases-bool (leb (d .worst) (j .work + 1))) [
-      inl y ↦ rw y tt
-    | inr n ↦
-      let below = leb-false (d .worst) (j .work + 1) n in
-      elim (cases-bool (leb (d .best) (j .work + 1))) [
-        inl y ↦ elim (cases-bool stay) [
-            inl z ↦ let h′ : leb (d .deadline) (j .age + 1) ≡ false = rw (n, y, z) at h in rw (n, y, z) (omega arith, omega (arith, leb-false (d .deadline) (j .age + 1) h′))
-          | inr z ↦ rw (n, y, z) tt ]
-      | inr y ↦ let h′ : leb (d .deadline) (j .age + 1) ≡ false = rw (n, y) at h in rw (n, y) (omega arith, omega (arith, leb-false (d .deadline) (j .age + 1) h′)) ] ]
+      | inl y ↦ rw y tt
+      | inr n ↦
+          let below = leb-false (d .worst) (j .work + 1) n in
+          elim (cases-bool (leb (d .best) (j .work + 1))) [
+            | inl y ↦ elim (cases-bool stay) [
+              | inl z ↦ let h′ : leb (d .deadline) (j .age + 1) ≡ false = rw (n, y, z) at h in rw (n, y, z) (omega arith, omega (arith, leb-false (d .deadline) (j .age + 1) h′))
+              | inr z ↦ rw (n, y, z) tt
+            ]
+            | inr y ↦ let h′ : leb (d .deadline) (j .age + 1) ≡ false = rw (n, y) at h in rw (n, y) (omega arith, omega (arith, leb-false (d .deadline) (j .age + 1) h′))
+          ]
+    ]
 
 pub bounded-all : (ds : List TaskView) (ss : List TaskState) (pick : ℕ) (stay : Bool) (n : ℕ) → Sane ds → 1 ≤ n → Bounded ss →
-  serve-all pick stay n ds ss .late ≡ 0 → Bounded (serve-all pick stay n ds ss .tasks)
+    serve-all pick stay n ds ss .late ≡ 0 → Bounded (serve-all pick stay n ds ss .tasks)
 bounded-all [] ss pick stay n sn hn h z = h
 bounded-all (d ∷ ds) [] pick stay n sn hn h z = tt
 bounded-all (d ∷ ds) (s ∷ ss) pick stay n sn hn h z =
     elim (cases-bool (serve (eqb n pick) stay d s .late)) [
-      inl y ↦ let no : n ≡ 0 = rw y at z in elim (let no′ : ⊥ = omega arith in no′) [ ]
-    | inr y ↦
-      let z′ : serve-all pick stay (n + 1) ds ss .late ≡ 0 = rw y at z in
-      (serve-bounded (eqb n pick) stay d (s .position) (s .job) (sn .0) (sn .1) (h .0) y,
-       bounded-all ds ss pick stay (n + 1) (sn .2) (omega arith) (h .1) z′) ]
+      | inl y ↦ let no : n ≡ 0 = rw y at z in elim (let no′ : ⊥ = omega arith in no′) [ ]
+      | inr y ↦
+          let z′ : serve-all pick stay (n + 1) ds ss .late ≡ 0 = rw y at z in (
+            serve-bounded (eqb n pick) stay d (s .position) (s .job) (sn .0) (sn .1) (h .0) y,
+            bounded-all ds ss pick stay (n + 1) (sn .2) (omega arith) (h .1) z′,
+          )
+    ]
 
 pub bounded-firsts : (ds : List TaskView) (ss : List TaskState) → bounded ss ≡ true → bounded (firsts ds ss) ≡ true
 bounded-firsts [] ss h = h

@@ -25,8 +25,9 @@ some-job : (ts : List Seen) → ((i : ℕ) × (job-at ts i ≡ true)) ⊎ ((i : 
 some-job [] = inr (λ i. refl)
 some-job (t ∷ ts) =
     elim (cases-bool (isSome (t .age))) [
-      inl y ↦ inl (0, y)
-    | inr n ↦ elim (some-job ts) [ inl h ↦ inl (suc (h .0), h .1) | inr h ↦ inr (both n h) ] ]
+      | inl y ↦ inl (0, y)
+      | inr n ↦ elim (some-job ts) [ inl h ↦ inl (suc (h .0), h .1) | inr h ↦ inr (both n h) ]
+    ]
   where
     both : isSome (t .age) ≡ false → ((i : ℕ) → job-at ts i ≡ false) → (i : ℕ) → job-at (t ∷ ts) i ≡ false
     both n h zero = n
@@ -39,5 +40,6 @@ no-one ts h (suc i) = h i
 pub picks-few : (picks : Picks) → WorkConserving picks → (ts : List Seen) (last : ℕ) → picks ts last ≤ length ts
 picks-few picks fair ts last =
     elim (some-job ts) [
-      inl h ↦ within ts (picks ts last) (fair .busy ts last (suc (h .0)) (h .1))
-    | inr h ↦ let z = fair .idle ts last (no-one ts h) in omega arith ]
+      | inl h ↦ within ts (picks ts last) (fair .busy ts last (suc (h .0)) (h .1))
+      | inr h ↦ let z = fair .idle ts last (no-one ts h) in omega arith
+    ]

@@ -26,17 +26,17 @@ use Rattle.slot.specs.Tasks.{TaskView, task-view, task-views}
 module _ {S : Type 0} (meaning : S → Meaning) where
   -- at a task, the duties from i on begin with it
   pub task-views-more : (ts : List (Option (Task S))) (i : ℕ) (d : Option (Task S)) (t : Task S) → i < length ts → getD ts i d ≡ Some t →
-    task-views meaning (drop i ts) ≡ task-view meaning t ∷ task-views meaning (drop (i + 1) ts)
+      task-views meaning (drop i ts) ≡ task-view meaning t ∷ task-views meaning (drop (i + 1) ts)
   task-views-more ts i d t h e = rw (drop-more ts i d h, e) refl
 
   -- at a free place they end
   pub task-views-end : (ts : List (Option (Task S))) (i : ℕ) (d : Option (Task S)) → i < length ts → getD ts i d ≡ None →
-    task-views meaning (drop i ts) ≡ []
+      task-views meaning (drop i ts) ≡ []
   task-views-end ts i d h e = rw (drop-more ts i d h, e) refl
 
 -- one more place of both
 pub choices-more : (ds es : List TaskView) (ss : List TaskState) (i : ℕ) (d : TaskView) (s : TaskState) → ds ≡ d ∷ es → i < length ss →
-  choices ds (drop i ss) ≡ d .stream .ways (getD ss i s .position) * choices es (drop (i + 1) ss)
+    choices ds (drop i ss) ≡ d .stream .ways (getD ss i s .position) * choices es (drop (i + 1) ss)
 choices-more ds es ss i d s e h = rw (e, drop-more ss i s h) refl
 
 -- seven places of at most four ways, and one more
@@ -68,7 +68,7 @@ module _ (ds es : List TaskView) (ss : List TaskState) (i a : ℕ) (d : TaskView
   one = come d (getD ss i s) a
 
   pub arrived-more : (v : TaskState) (left : ℕ) → v ≡ one .state → left ≡ one .left →
-    take (i + 1) (set ss i v) ++ arrived es (drop (i + 1) (set ss i v)) left ≡ take i ss ++ arrived ds (drop i ss) a
+      take (i + 1) (set ss i v) ++ arrived es (drop (i + 1) (set ss i v)) left ≡ take i ss ++ arrived ds (drop i ss) a
   arrived-more v left ev el =
       let rest : List TaskState = arrived es (drop (i + 1) ss) left in
       let front : take (i + 1) (set ss i v) ≡ take i ss ++ (v ∷ []) = rw add-one (take-suc-set ss i v within) in
@@ -77,35 +77,38 @@ module _ (ds es : List TaskView) (ss : List TaskState) (i a : ℕ) (d : TaskView
       rw (front, back, more) (append-assoc (take i ss) (v ∷ []) rest)
 
   pub overlap-more : (n o o′ left : ℕ) (v : TaskState) (b : Bool) → 1 ≤ n → b ≡ overlaps (one .release) → left ≡ one .left → o′ ≡ cond (eqb o 0) (cond b n 0) o →
-    cond (eqb o′ 0) (overlapping (n + 1) es (drop (i + 1) (set ss i v)) left) o′ ≡ cond (eqb o 0) (overlapping n ds (drop i ss) a) o
+      cond (eqb o′ 0) (overlapping (n + 1) es (drop (i + 1) (set ss i v)) left) o′ ≡ cond (eqb o 0) (overlapping n ds (drop i ss) a) o
   overlap-more n o o′ left v b hn eb el eo =
       let back : drop (i + 1) (set ss i v) ≡ drop (i + 1) ss = drop-set-lt (i + 1) ss i v (omega arith) in
       let more : overlapping n ds (drop i ss) a ≡ cond b n (overlapping (n + 1) es (drop (i + 1) ss) left) =
-        rw (begins, drop-more ss i s within, eb, el) refl in
+      rw (begins, drop-more ss i s within, eb, el) refl in
       let m : eqb n 0 ≡ false = ne-eqb n 0 (λ x. omega arith) in
       rw (back, more)
       (elim (cases-bool (eqb o 0)) [
-        inl y ↦ elim (cases-bool b) [
-            inl z ↦ let q : o′ ≡ n = eo ∙ rw (y, z) refl in rw (q, m, y, z) refl
-          | inr z ↦ let q : o′ ≡ 0 = eo ∙ rw (y, z) refl in rw (q, y, z) refl ]
-      | inr y ↦ let q : o′ ≡ o = eo ∙ rw y refl in rw (q, y) refl ])
+        | inl y ↦ elim (cases-bool b) [
+          | inl z ↦ let q : o′ ≡ n = eo ∙ rw (y, z) refl in rw (q, m, y, z) refl
+          | inr z ↦ let q : o′ ≡ 0 = eo ∙ rw (y, z) refl in rw (q, y, z) refl
+        ]
+        | inr y ↦ let q : o′ ≡ o = eo ∙ rw y refl in rw (q, y) refl
+      ])
 
 -- no task is left
 pub done-tasks : (ds : List TaskView) (ss out : List TaskState) (i a : ℕ) → ds ≡ [] → take i ss ++ arrived ds (drop i ss) a ≡ out → ss ≡ out
 done-tasks ds ss out i a e h = sym (take-append-drop i ss) ∙ (rw e at h)
 
 pub done-overlap : (ds : List TaskView) (ss : List TaskState) (n a i o out : ℕ) → ds ≡ [] →
-  cond (eqb o 0) (overlapping n ds (drop i ss) a) o ≡ out → o ≡ out
+    cond (eqb o 0) (overlapping n ds (drop i ss) a) o ≡ out → o ≡ out
 done-overlap ds ss n a i o out e h =
     let h′ : cond (eqb o 0) 0 o ≡ out = rw e at h in
     elim (cases-bool (eqb o 0)) [
-      inl y ↦ eqb-true o 0 y ∙ (rw y at h′)
-    | inr y ↦ rw y at h′ ]
+      | inl y ↦ eqb-true o 0 y ∙ (rw y at h′)
+      | inr y ↦ rw y at h′
+    ]
 
 -- one task's flag more
 pub flag-more : (ds es : List TaskView) (ss : List TaskState) (bs : List Bool) (i a left : ℕ) (d : TaskView) (s v : TaskState) (b : Bool) → ds ≡ d ∷ es → i < length ss → i < length bs →
-  b ≡ come d (getD ss i s) a .arrives → left ≡ come d (getD ss i s) a .left →
-  take (i + 1) (set bs i b) ++ arrivals-in es (drop (i + 1) (set ss i v)) left ≡ take i bs ++ arrivals-in ds (drop i ss) a
+    b ≡ come d (getD ss i s) a .arrives → left ≡ come d (getD ss i s) a .left →
+    take (i + 1) (set bs i b) ++ arrivals-in es (drop (i + 1) (set ss i v)) left ≡ take i bs ++ arrivals-in ds (drop i ss) a
 flag-more ds es ss bs i a left d s v b begins within room eb el =
     let front : take (i + 1) (set bs i b) ≡ take i bs ++ (b ∷ []) = rw add-one (take-suc-set bs i b room) in
     let back : drop (i + 1) (set ss i v) ≡ drop (i + 1) ss = drop-set-lt (i + 1) ss i v (omega arith) in
@@ -114,7 +117,7 @@ flag-more ds es ss bs i a left d s v b begins within room eb el =
 
 -- the flags of places without a task stay as they were
 pub done-flags : (ds : List TaskView) (ss : List TaskState) (bs out : List Bool) (i a : ℕ) → ds ≡ [] → drop i bs ≡ map (λ _. false) (drop i ss) →
-  take i bs ++ arrivals-in ds (drop i ss) a ≡ out → bs ≡ out
+    take i bs ++ arrivals-in ds (drop i ss) a ≡ out → bs ≡ out
 done-flags ds ss bs out i a e q h =
     let h′ : take i bs ++ map (λ _. false) (drop i ss) ≡ out = rw e at h in
     sym (take-append-drop i bs) ∙ ap (λ x. take i bs ++ x) q ∙ h′
@@ -127,7 +130,7 @@ no-flags (suc n) (s ∷ ss) h = ap (λ x. false ∷ x) (no-flags n ss (omega ari
 
 -- and are still all off past a place that was filled
 pub flags-rest : (ss : List TaskState) (bs : List Bool) (i : ℕ) (v : TaskState) (b : Bool) → length ss ≡ length bs → i < length ss →
-  drop i bs ≡ map (λ _. false) (drop i ss) → drop (i + 1) (set bs i b) ≡ map (λ _. false) (drop (i + 1) (set ss i v))
+    drop i bs ≡ map (λ _. false) (drop i ss) → drop (i + 1) (set bs i b) ≡ map (λ _. false) (drop (i + 1) (set ss i v))
 flags-rest ss bs i v b l h e =
     let p : drop (i + 1) (set bs i b) ≡ drop (i + 1) bs = drop-set-lt (i + 1) bs i b (omega arith) in
     let q : drop (i + 1) (set ss i v) ≡ drop (i + 1) ss = drop-set-lt (i + 1) ss i v (omega arith) in

@@ -44,8 +44,8 @@ module _ {S : Type 0} (meaning : S → Meaning) where
       record { put-task-views = ap (λ ds. task-view meaning x ∷ ds) (r .put-task-views); put-packed = r .put-packed }
 
 pub firsts-more : (ds es : List TaskView) (ss : List TaskState) (i : ℕ) (d : TaskView) (s v : TaskState) → ds ≡ d ∷ es → i < length ss →
-  v ≡ record { position = d .stream .first; job = None } →
-  take (i + 1) (set ss i v) ++ firsts es (drop (i + 1) (set ss i v)) ≡ take i ss ++ firsts ds (drop i ss)
+    v ≡ record { position = d .stream .first; job = None } →
+    take (i + 1) (set ss i v) ++ firsts es (drop (i + 1) (set ss i v)) ≡ take i ss ++ firsts ds (drop i ss)
 firsts-more ds es ss i d s v begins within ev =
     let front : take (i + 1) (set ss i v) ≡ take i ss ++ (v ∷ []) = rw add-one (take-suc-set ss i v within) in
     let back : drop (i + 1) (set ss i v) ≡ drop (i + 1) ss = drop-set-lt (i + 1) ss i v (omega arith) in

@@ -45,13 +45,14 @@ pub one-more : (ts after : List TaskView) (x : Result TaskView Fault) → adding
 one-more ts after (Err f) h = let z : _≡_ {A = ℕ} 0 1 = cc in elim (let no : ⊥ = omega arith in no) [ ]
 one-more ts after (Ok t) h =
     elim (cases-bool (ltb (length ts) 8)) [
-      inl y ↦
-        let h′ : Ok (ts ++ (t ∷ [])) ≡ Ok after = rw y at h in
-        let e : ts ++ (t ∷ []) ≡ after = cc in
-        rw (sym e, length-append ts (t ∷ [])) refl
-    | inr y ↦
-        let h′ : Err _ ≡ Ok after = rw y at h in
-        let z : _≡_ {A = ℕ} 0 1 = cc in elim (let no : ⊥ = omega arith in no) [ ] ]
+      | inl y ↦
+          let h′ : Ok (ts ++ (t ∷ [])) ≡ Ok after = rw y at h in
+          let e : ts ++ (t ∷ []) ≡ after = cc in
+          rw (sym e, length-append ts (t ∷ [])) refl
+      | inr y ↦
+          let h′ : Err _ ≡ Ok after = rw y at h in
+          let z : _≡_ {A = ℕ} 0 1 = cc in elim (let no : ⊥ = omega arith in no) [ ]
+    ]
 
 pub refused-stays : (f : Fault) (rs : List (List ℕ)) → add-records (Err f) rs ≡ Err f
 refused-stays f [] = refl
@@ -69,28 +70,30 @@ some-record n m (b ∷ bs) e h = rw e refl
 module _ (bs : List ℕ) (at end : ℕ) (within : at < length bs) (is : end ≡ min (length bs) (at + 24)) where
   pub cut-is : take (end - at) (drop at bs) ≡ take 24 (drop at bs)
   cut-is = elim (cases-lt (length bs) (at + 24)) [
-      inl p ↦
+    | inl p ↦
         let e : end ≡ length bs = is ∙ min-eq-left (omega arith) in
         let l = length-drop at bs in
         take-all (end - at) (drop at bs) (omega arith) ∙ sym (take-all 24 (drop at bs) (omega arith))
     | inr p ↦
         let e : end ≡ at + 24 = is ∙ min-eq-right p in
         let n : end - at ≡ 24 = omega arith in
-        rw n refl ]
+        rw n refl
+  ]
 
   pub rest-is : drop end bs ≡ drop 24 (drop at bs)
   rest-is = elim (cases-lt (length bs) (at + 24)) [
-      inl p ↦
+    | inl p ↦
         let e : end ≡ length bs = is ∙ min-eq-left (omega arith) in
         drop-all end bs (omega arith) ∙ sym (drop-all (at + 24) bs (omega arith)) ∙ sym (drop-drop 24 at bs)
     | inr p ↦
         let e : end ≡ at + 24 = is ∙ min-eq-right p in
-        ap (λ n. drop n bs) e ∙ sym (drop-drop 24 at bs) ]
+        ap (λ n. drop n bs) e ∙ sym (drop-drop 24 at bs)
+  ]
 
 -- one record more, from n tasks on
 module _ (bs : List ℕ) (at end : ℕ) (within : at < length bs) (is : end ≡ min (length bs) (at + 24)) (ts : List TaskView) (few : length ts ≤ 8) where
   pub record-next : add-records (Ok ts) (records (9 - length ts) (drop at bs))
-    ≡ add-records (adding ts (read-record (length ts + 1) (take (end - at) (drop at bs)))) (records (8 - length ts) (drop end bs))
+      ≡ add-records (adding ts (read-record (length ts + 1) (take (end - at) (drop at bs)))) (records (8 - length ts) (drop end bs))
   record-next =
       let l = length-drop at bs in
       let more = some-record (9 - length ts) (8 - length ts) (drop at bs) (omega arith) (omega arith) in
@@ -98,6 +101,6 @@ module _ (bs : List ℕ) (at end : ℕ) (within : at < length bs) (is : end ≡ 
 
 -- a fault that `?` hands on is the answer
 pub reads-err : (r : Result (Plan (Either Periodic Sporadic)) Fault) (f : Fault) (x : Result (List TaskView) Fault) → isErr r ≡ true → ErrBy r (λ y. y ≡ f) →
-  x ≡ Err f → Reads-plan r x
+    x ≡ Err f → Reads-plan r x
 reads-err (Ok p) f x e b h = let z : _≡_ {A = ℕ} 0 1 = cc in elim (let no : ⊥ = omega arith in no) [ ]
 reads-err (Err g) f x e b h = h ∙ ap Err (sym b)

@@ -38,8 +38,8 @@ pub record Onward (i : ℕ) (tasks : List TaskState) (ended : Option Ended) (may
 
 -- one task seen more
 pub sees-more : (ds es : List TaskView) (ss : List TaskState) (xs : List Seen) (i : ℕ) (d : TaskView) (s : TaskState) (v : Seen) →
-  ds ≡ d ∷ es → i < length ss → i < length xs → v ≡ record { priority = d .priority; age = age-of (getD ss i s .job) } →
-  take (i + 1) (set xs i v) ++ sees es (drop (i + 1) ss) ≡ take i xs ++ sees ds (drop i ss)
+    ds ≡ d ∷ es → i < length ss → i < length xs → v ≡ record { priority = d .priority; age = age-of (getD ss i s .job) } →
+    take (i + 1) (set xs i v) ++ sees es (drop (i + 1) ss) ≡ take i xs ++ sees ds (drop i ss)
 sees-more ds es ss xs i d s v begins within room ev =
     let front : take (i + 1) (set xs i v) ≡ take i xs ++ (v ∷ []) = rw add-one (take-suc-set xs i v room) in
     let more : sees ds (drop i ss) ≡ v ∷ sees es (drop (i + 1) ss) = rw (begins, drop-more ss i s within, ev) refl in
@@ -56,12 +56,13 @@ or-more false true x = refl
 or-more false false x = refl
 
 late-more : (o n x : ℕ) (b : Bool) → 1 ≤ n →
-  cond (eqb (cond (eqb o 0) (cond b n 0) o) 0) x (cond (eqb o 0) (cond b n 0) o) ≡ cond (eqb o 0) (cond b n x) o
+    cond (eqb (cond (eqb o 0) (cond b n 0) o) 0) x (cond (eqb o 0) (cond b n 0) o) ≡ cond (eqb o 0) (cond b n x) o
 late-more o n x b h =
     let m : eqb n 0 ≡ false = ne-eqb n 0 (λ e. omega arith) in
     elim (cases-bool (eqb o 0)) [
-      inl y ↦ elim (cases-bool b) [ inl z ↦ rw (y, z, m) refl | inr z ↦ rw (y, z) refl ]
-    | inr y ↦ rw y (rw y refl) ]
+      | inl y ↦ elim (cases-bool b) [ inl z ↦ rw (y, z, m) refl | inr z ↦ rw (y, z) refl ]
+      | inr y ↦ rw y (rw y refl)
+    ]
 
 module _ (ds es : List TaskView) (ss : List TaskState) (i pick : ℕ) (stay : Bool) (d : TaskView) (s : TaskState) (begins : ds ≡ d ∷ es) (within : i < length ss) where
   abbrev one : Served
@@ -71,20 +72,20 @@ module _ (ds es : List TaskView) (ss : List TaskState) (i pick : ℕ) (stay : Bo
   rest = serve-all pick stay (i + 1 + 1) es (drop (i + 1) ss)
 
   serve-all-more : serve-all pick stay (i + 1) ds (drop i ss) ≡ record {
-      tasks = one .state ∷ rest .tasks;
-      ended = ended-by (i + 1) (one .response) (rest .ended);
-      «may_choose» = cond (one .«may_choose») true (rest .«may_choose»);
-      late = cond (one .late) (i + 1) (rest .late);
-    }
+    tasks = one .state ∷ rest .tasks;
+    ended = ended-by (i + 1) (one .response) (rest .ended);
+    «may_choose» = cond (one .«may_choose») true (rest .«may_choose»);
+    late = cond (one .late) (i + 1) (rest .late);
+  }
   serve-all-more = rw (begins, drop-more ss i s within) refl
 
   pub bounded-here : Bounded (drop i ss) → Job-bounded (getD ss i s .job)
   bounded-here h = let h′ = rw (drop-more ss i s within) at h in h′ .0
 
   pub onward-more : (ended ended′ : Option Ended) (may : Bool) (late late′ : ℕ) (x : Served) (all : Round) →
-    Onward i ss ended may late (serve-all pick stay (i + 1) ds (drop i ss)) all → x ≡ one →
-    ended′ ≡ either ended (ended-by (i + 1) (x .response) None) → late′ ≡ cond (eqb late 0) (cond (x .late) (i + 1) 0) late →
-    Onward (i + 1) (set ss i (x .state)) ended′ (may || x .«may_choose») late′ (serve-all pick stay (i + 1 + 1) es (drop (i + 1) (set ss i (x .state)))) all
+      Onward i ss ended may late (serve-all pick stay (i + 1) ds (drop i ss)) all → x ≡ one →
+      ended′ ≡ either ended (ended-by (i + 1) (x .response) None) → late′ ≡ cond (eqb late 0) (cond (x .late) (i + 1) 0) late →
+      Onward (i + 1) (set ss i (x .state)) ended′ (may || x .«may_choose») late′ (serve-all pick stay (i + 1 + 1) es (drop (i + 1) (set ss i (x .state)))) all
   onward-more ended ended′ may late late′ x all on ex ee eo =
       let v : TaskState = x .state in
       let front : take (i + 1) (set ss i v) ≡ take i ss ++ (v ∷ []) = rw add-one (take-suc-set ss i v within) in
@@ -115,7 +116,7 @@ late-none : (o : ℕ) → o ≡ cond (eqb o 0) 0 o
 late-none o = elim (cases-bool (eqb o 0)) [ inl y ↦ rw y (eqb-true o 0 y) | inr y ↦ rw y refl ]
 
 pub onward-done : (ds : List TaskView) (ss : List TaskState) (i n pick : ℕ) (stay : Bool) (ended : Option Ended) (may : Bool) (late : ℕ) (all : Round) → ds ≡ [] →
-  Onward i ss ended may late (serve-all pick stay n ds (drop i ss)) all → record { tasks = ss; ended = ended; «may_choose» = may; late = late } ≡ all
+    Onward i ss ended may late (serve-all pick stay n ds (drop i ss)) all → record { tasks = ss; ended = ended; «may_choose» = may; late = late } ≡ all
 onward-done ds ss i n pick stay ended may late all e on =
     let z : serve-all pick stay n ds (drop i ss) ≡ record { tasks = drop i ss; ended = None; «may_choose» = false; late = 0 } = rw e refl in
     let tasks-are : ss ≡ all .tasks = sym (take-append-drop i ss) ∙ sym (ap (λ p. take i ss ++ p .tasks) z) ∙ on .tasks-on in
@@ -125,7 +126,7 @@ onward-done ds ss i n pick stay ended may late all e on =
     λ x. record { tasks = tasks-are x; ended = ended-is x; «may_choose» = choose-is x; late = late-is x }
 
 pub sees-done : (ds : List TaskView) (ss : List TaskState) (xs all : List Seen) (i : ℕ) → ds ≡ [] →
-  take i xs ++ sees ds (drop i ss) ≡ all → take i xs ≡ all
+    take i xs ++ sees ds (drop i ss) ≡ all → take i xs ≡ all
 sees-done ds ss xs all i e h = let h′ = rw e at h in sym (append-nil (take i xs)) ∙ h′
 
 -- arrivals keep work and age within bounds

@@ -31,7 +31,7 @@ task-or-fault number t (Some f) = Err (fault-at TaskBounds number (field-offset 
 abbrev pub read-numbers : ℕ → Meaning → ℕ → ℕ → ℕ → ℕ → Result TaskView Fault
 read-numbers number stream priority best worst deadline =
     task-or-fault number (record { stream = stream; priority = priority; best = best; worst = worst; deadline = deadline })
-      (times-fault priority best worst deadline)
+    (times-fault priority best worst deadline)
 
 -- A task that was read comes after the others; a plan of eight tasks refuses it.
 abbrev pub adding : List TaskView → Result TaskView Fault → Result (List TaskView) Fault

@@ -71,7 +71,7 @@ abbrev pub read-lettered : ℕ → List ℕ → Option Letter → Result TaskVie
 read-lettered number bs None = Err (fault-at Kind number 0)
 read-lettered number bs (Some k) =
     then-check (read-numbers number (stream-meaning k (word bs 8) (word bs 10) (word bs 12)) (getD bs 1 0) (word bs 2) (word bs 4) (word bs 6))
-      (λ t. check-stream number (stream-fault k (word bs 8) (word bs 10) (word bs 12)) (check-zeros number (first-nonzero 14 (drop 14 bs)) t))
+    (λ t. check-stream number (stream-fault k (word bs 8) (word bs 10) (word bs 12)) (check-zeros number (first-nonzero 14 (drop 14 bs)) t))
 
 abbrev pub read-record : ℕ → List ℕ → Result TaskView Fault
 read-record number bs = cond (eqb (length bs) 24) (read-lettered number bs (letter-of (getD bs 0 0))) (Err (fault-at RecordLength number 0))

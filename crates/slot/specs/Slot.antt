@@ -52,7 +52,7 @@ abbrev pub settled : Bool → ℕ → Round → Outcome StateView
 settled stay pick r =
     cond (stay && not (r .«may_choose»)) Void
     (cond (eqb (r .late) 0) (Next (record { tasks = r .tasks; last = runner-after pick (r .ended) }) (r .ended))
-      (Late (r .late) Deadline (r .ended)))
+    (Late (r .late) Deadline (r .ended)))
 
 -- The whole slot, at the way a + A f: the streams take the ways of a, and f = 1 means that the picked job stays where it
 -- may choose.
@@ -65,8 +65,8 @@ slot ts picks m way =
     let over = overlapping 1 ts (m .tasks) a in
     let pick = picks (sees ts tasks) (m .last) in
     cond (ltb way (2 * all))
-      (cond (eqb over 0) (settled stay pick (serve-all pick stay 1 ts tasks)) (cond stay Void (Late over Overlap None)))
-      Void
+    (cond (eqb over 0) (settled stay pick (serve-all pick stay 1 ts tasks)) (cond stay Void (Late over Overlap None)))
+    Void
 
 -- What the slot of a way shows: who has an arrival, the task picked (0 for none, and in a slot with an overlap), and the
 -- job that ends.

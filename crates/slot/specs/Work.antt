@@ -46,8 +46,8 @@ abbrev pub works : Bool → TaskView → ℕ → Job → Served
 works stay t position j =
     cond (leb (t .worst) (j .work + 1)) (ends position (j .age) false)
     (cond (leb (t .best) (j .work + 1))
-      (cond stay (goes-on t position (j .work + 1) (j .age) true) (ends position (j .age) true))
-      (goes-on t position (j .work + 1) (j .age) false))
+    (cond stay (goes-on t position (j .work + 1) (j .age) true) (ends position (j .age) true))
+    (goes-on t position (j .work + 1) (j .age) false))
 
 abbrev pub serve-job : Bool → Bool → TaskView → ℕ → Option Job → Served
 serve-job picked stay t position None = record { state = record { position = position; job = None }; response = None; «may_choose» = false; late = false }

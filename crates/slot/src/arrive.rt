@@ -89,8 +89,16 @@ fn come<S: Stream>(task: &Task<S>, state: TaskState, left: u32) -> Arrival
     let ways = task.stream.ways(state.position) as u32;
     let (arrives, position) = task.stream.answer(state.position, (left % ways) as u8);
     let release = released(arrives, state.job);
-    let state = TaskState { position, job: job_then(release, state.job) };
-    Arrival { arrives, release, state, left: left / ways }
+    let state = TaskState {
+        position,
+        job: job_then(release, state.job),
+    };
+    Arrival {
+        arrives,
+        release,
+        state,
+        left: left / ways,
+    }
 }
 
 // The earlier of two task numbers, where 0 is none.
@@ -126,5 +134,9 @@ pub fn arrive<S: Stream>(plan: &Plan<S>, state: &State, choice: u32) -> Arrivals
         overlap = first_of(overlap, overlap_in(a.release), i as u8 + 1);
         left = a.left;
     }
-    Arrivals { arrivals, tasks, overlap }
+    Arrivals {
+        arrivals,
+        tasks,
+        overlap,
+    }
 }

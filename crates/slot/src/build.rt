@@ -34,7 +34,12 @@ impl Times {
         } else if deadline < worst || deadline > DEADLINE_LIMIT {
             Err(Field::Deadline)
         } else {
-            Ok(Times { priority, best, worst, deadline })
+            Ok(Times {
+                priority,
+                best,
+                worst,
+                deadline,
+            })
         }
     }
 }
@@ -44,7 +49,9 @@ impl<S: Stream> Plan<S> {
     pub fn new() -> Plan<S>
         ensures { λ r. ⌜ task-views (S·Stream .meaning) (r .tasks) ≡ [] ⌝ }
     {
-        Plan { tasks: [None, None, None, None, None, None, None, None] }
+        Plan {
+            tasks: [None, None, None, None, None, None, None, None],
+        }
     }
 
     // How many tasks it has.
@@ -69,20 +76,33 @@ impl<S: Stream + Drop> Plan<S> {
     {
         let n = self.count();
         if n >= 8 {
-            return Err(Fault { refusal: Refusal::PlanFull, at: (n as u32 + 1, 0) });
+            return Err(Fault {
+                refusal: Refusal::PlanFull,
+                at: (n as u32 + 1, 0),
+            });
         }
         self.tasks[n] = Some(task);
         Ok(())
     }
 
     // A task more, over any stream, by its numbers: refused with the first number out of bounds, or if the plan has eight.
-    pub fn add_task(&mut self, stream: S, priority: u8, best: u16, worst: u16, deadline: u16) -> Result<(), Fault>
+    pub fn add_task(
+        &mut self,
+        stream: S,
+        priority: u8,
+        best: u16,
+        worst: u16,
+        deadline: u16,
+    ) -> Result<(), Fault>
         ensures added { λ r. ⌜ Added (task-views (S·Stream .meaning) (now (self .entry) .tasks)) (task-views (S·Stream .meaning) (now (self .exit) .tasks)) (read-numbers (length (task-views (S·Stream .meaning) (now (self .entry) .tasks)) + 1) (S·Stream .meaning stream) priority best worst deadline) r ⌝ }
         ensures same { λ r. ⌜ refused r (λ _. now (self .exit) ≡ now (self .entry)) ⌝ }
     {
         match Times::new(priority, best, worst, deadline) {
             Ok(times) => self.put(Task { stream, times }),
-            Err(field) => Err(Fault { refusal: Refusal::TaskBounds, at: (self.count() as u32 + 1, field.offset()) }),
+            Err(field) => Err(Fault {
+                refusal: Refusal::TaskBounds,
+                at: (self.count() as u32 + 1, field.offset()),
+            }),
         }
     }
 }

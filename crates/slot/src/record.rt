@@ -96,21 +96,36 @@ fn read(bytes: &[u8], number: u32) -> Result<Task<Kind>, Fault>
     ensures { λ r. ⌜ Reads r (read-record number (now (bytes .entry))) ⌝ }
 {
     if bytes.len() != 24 {
-        return Err(Fault { refusal: Refusal::RecordLength, at: (number, 0) });
+        return Err(Fault {
+            refusal: Refusal::RecordLength,
+            at: (number, 0),
+        });
     }
     let Some(kind) = kind_of(bytes[0]) else {
-        return Err(Fault { refusal: Refusal::Kind, at: (number, 0) });
+        return Err(Fault {
+            refusal: Refusal::Kind,
+            at: (number, 0),
+        });
     };
     let times = match Times::new(bytes[1], word(bytes, 2), word(bytes, 4), word(bytes, 6)) {
         Ok(times) => times,
-        Err(field) => return Err(Fault { refusal: Refusal::TaskBounds, at: (number, field.offset()) }),
+        Err(field) => return Err(Fault {
+            refusal: Refusal::TaskBounds,
+            at: (number, field.offset()),
+        }),
     };
     let stream = match stream(kind, word(bytes, 8), word(bytes, 10), word(bytes, 12)) {
         Ok(stream) => stream,
-        Err(parameter) => return Err(Fault { refusal: Refusal::StreamBounds, at: (number, offset_of(parameter)) }),
+        Err(parameter) => return Err(Fault {
+            refusal: Refusal::StreamBounds,
+            at: (number, offset_of(parameter)),
+        }),
     };
     if let Some(at) = nonzero(bytes) {
-        return Err(Fault { refusal: Refusal::ZeroBytes, at: (number, at) });
+        return Err(Fault {
+            refusal: Refusal::ZeroBytes,
+            at: (number, at),
+        });
     }
     Ok(Task { stream, times })
 }

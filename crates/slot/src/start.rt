@@ -11,12 +11,18 @@ use streams::Stream;
 pub fn start<S: Stream>(plan: &Plan<S>) -> State
     ensures { λ r. ⌜ state-view r ≡ start-state (task-views (S·Stream .meaning) (now (plan .entry) .tasks)) ⌝ }
 {
-    let mut tasks = [TaskState { position: 0, job: None }; 8];
+    let mut tasks = [TaskState {
+        position: 0,
+        job: None,
+    }; 8];
     for i in 0..8 {
         let Some(task) = &plan.tasks[i] else {
             break;
         };
-        tasks[i] = TaskState { position: task.stream.first(), job: None };
+        tasks[i] = TaskState {
+            position: task.stream.first(),
+            job: None,
+        };
     }
     State { tasks, last: 0 }
 }

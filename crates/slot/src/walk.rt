@@ -31,7 +31,12 @@ pub fn ways<S: Stream>(plan: &Plan<S>, state: &State) -> u32
 }
 
 // One slot from a state, by the way of this number.
-pub fn walk<S: Stream, D: Dispatch>(plan: &Plan<S>, rule: &D, state: &State, way: u32) -> Outcome<State>
+pub fn walk<S: Stream, D: Dispatch>(
+    plan: &Plan<S>,
+    rule: &D,
+    state: &State,
+    way: u32,
+) -> Outcome<State>
     ensures { λ r. ⌜ outcome-view r ≡ slot (task-views (S·Stream .meaning) (now (plan .entry) .tasks)) (D·Dispatch .picks (now (rule .entry))) (state-view (now (state .entry))) way ⌝ }
 {
     let all = stream_ways(plan, state);
@@ -44,7 +49,11 @@ pub fn walk<S: Stream, D: Dispatch>(plan: &Plan<S>, rule: &D, state: &State, way
         return if stay {
             Outcome::Void
         } else {
-            Outcome::Late { task: came.overlap, cause: Cause::Overlap, ended: None }
+            Outcome::Late {
+                task: came.overlap,
+                cause: Cause::Overlap,
+                ended: None,
+            }
         };
     }
     let pick = pick_of(plan, rule, &came.tasks, state.last);
@@ -61,10 +70,20 @@ fn settle(round: Round, pick: u8, stay: bool) -> Outcome<State>
         return Outcome::Void;
     }
     if round.late != 0 {
-        return Outcome::Late { task: round.late, cause: Cause::Deadline, ended: round.ended };
+        return Outcome::Late {
+            task: round.late,
+            cause: Cause::Deadline,
+            ended: round.ended,
+        };
     }
     let last = if round.ended.is_some() { 0 } else { pick };
-    Outcome::Next { state: State { tasks: round.tasks, last }, ended: round.ended }
+    Outcome::Next {
+        state: State {
+            tasks: round.tasks,
+            last,
+        },
+        ended: round.ended,
+    }
 }
 
 // The job that ended in a slot of this outcome.
@@ -83,6 +102,14 @@ pub fn observe<S: Stream, D: Dispatch>(plan: &Plan<S>, rule: &D, state: &State, 
     ensures { λ r. ⌜ r ≡ event (task-views (S·Stream .meaning) (now (plan .entry) .tasks)) (D·Dispatch .picks (now (rule .entry))) (state-view (now (state .entry))) way ⌝ }
 {
     let came = arrive(plan, state, way % stream_ways(plan, state));
-    let picked = if came.overlap != 0 { 0 } else { pick_of(plan, rule, &came.tasks, state.last) };
-    Event { arrivals: came.arrivals, picked, ended: ended(walk(plan, rule, state, way)) }
+    let picked = if came.overlap != 0 {
+        0
+    } else {
+        pick_of(plan, rule, &came.tasks, state.last)
+    };
+    Event {
+        arrivals: came.arrivals,
+        picked,
+        ended: ended(walk(plan, rule, state, way)),
+    }
 }

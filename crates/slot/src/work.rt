@@ -42,16 +42,35 @@ fn serve<S: Stream>(task: &Task<S>, state: TaskState, picked: bool, stay: bool) 
 {
     let position = state.position;
     let Some(Job { work, age }) = state.job else {
-        return Served { state: TaskState { position, job: None }, response: None, may_choose: false, late: false };
+        return Served {
+            state: TaskState {
+                position,
+                job: None,
+            },
+            response: None,
+            may_choose: false,
+            late: false,
+        };
     };
     let work = if picked { work + 1 } else { work };
     let age = age + 1;
     let may_choose = picked && work >= task.times.best && work < task.times.worst;
     if picked && (work >= task.times.worst || (may_choose && !stay)) {
-        Served { state: TaskState { position, job: None }, response: Some(age), may_choose, late: false }
+        Served {
+            state: TaskState {
+                position,
+                job: None,
+            },
+            response: Some(age),
+            may_choose,
+            late: false,
+        }
     } else {
         Served {
-            state: TaskState { position, job: Some(Job { work, age }) },
+            state: TaskState {
+                position,
+                job: Some(Job { work, age }),
+            },
             response: None,
             may_choose,
             late: age >= task.times.deadline,
@@ -60,16 +79,27 @@ fn serve<S: Stream>(task: &Task<S>, state: TaskState, picked: bool, stay: bool) 
 }
 
 // The task that the rule picks.
-pub fn pick_of<S: Stream, D: Dispatch>(plan: &Plan<S>, rule: &D, tasks: &[TaskState; 8], last: u8) -> u8
+pub fn pick_of<S: Stream, D: Dispatch>(
+    plan: &Plan<S>,
+    rule: &D,
+    tasks: &[TaskState; 8],
+    last: u8,
+) -> u8
     ensures { λ r. ⌜ r ≡ D·Dispatch .picks (now (rule .entry)) (sees (task-views (S·Stream .meaning) (now (plan .entry) .tasks)) (now (tasks .entry))) last ⌝ }
 {
-    let mut seen = [Seen { priority: 0, age: None }; 8];
+    let mut seen = [Seen {
+        priority: 0,
+        age: None,
+    }; 8];
     let mut count = 0;
     for i in 0..8 {
         let Some(task) = &plan.tasks[i] else {
             break;
         };
-        seen[i] = Seen { priority: task.times.priority, age: age(tasks[i].job) };
+        seen[i] = Seen {
+            priority: task.times.priority,
+            age: age(tasks[i].job),
+        };
         count = i + 1;
     }
     rule.pick(&seen[0..count], last as usize) as u8
@@ -118,5 +148,10 @@ pub fn serve_all<S: Stream>(plan: &Plan<S>, before: &[TaskState; 8], pick: u8, s
         may_choose = may_choose | s.may_choose;
         late = first_of(late, s.late, number);
     }
-    Round { tasks, ended, may_choose, late }
+    Round {
+        tasks,
+        ended,
+        may_choose,
+        late,
+    }
 }

@@ -1,5 +1,9 @@
-// Worked examples, as tests.
+// Worked examples, each a test.
 #[cfg(test)]
 mod dispatch_examples;
 #[cfg(test)]
+mod plan_examples;
+#[cfg(test)]
 mod refusal_examples;
+#[cfg(test)]
+mod stream_examples;

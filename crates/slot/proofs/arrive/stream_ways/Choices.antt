@@ -10,4 +10,4 @@ Inv-loop-i g l =
     (l .all ≤ 4 ^ l .i)
     × (1 ≤ l .all)
     × (l .all * choices (task-views (g .S·Stream .meaning) (drop (l .i) (l .plan .tasks))) (drop (l .i) (l .state .tasks))
-       ≡ choices (task-views (g .S·Stream .meaning) (l .plan .tasks)) (l .state .tasks))
+    ≡ choices (task-views (g .S·Stream .meaning) (l .plan .tasks)) (l .state .tasks))

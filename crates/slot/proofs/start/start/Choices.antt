@@ -9,4 +9,4 @@ abbrev pub Inv-loop-i : given.InvT-loop-i
 Inv-loop-i g l =
     (length (l .tasks) ≡ 8)
     × (take (l .i) (l .tasks) ++ firsts (task-views (g .S·Stream .meaning) (drop (l .i) (l .plan .tasks))) (drop (l .i) (l .tasks))
-       ≡ start-state (task-views (g .S·Stream .meaning) (l .plan .tasks)) .tasks)
+    ≡ start-state (task-views (g .S·Stream .meaning) (l .plan .tasks)) .tasks)

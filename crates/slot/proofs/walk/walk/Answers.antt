@@ -10,5 +10,5 @@ use Rattle.slot.proofs.walk.walk.Needs as need
 
 pub serve-all-round-requires : need.serve-all-round-requires
 serve-all-round-requires g c κs =
-  let s : Bounded (arrived (task-views (g .S·Stream .meaning) (c .args .plan .now .tasks)) (c .args .state .now .tasks) _) = bounded-arrived _ (c .args .state .now .tasks) _ (test-bounded _ (c .args .state .now .limited)) in
-  (search needs, rw (c .arrive-came .ensures .tasks) s)
+    let s : Bounded (arrived (task-views (g .S·Stream .meaning) (c .args .plan .now .tasks)) (c .args .state .now .tasks) _) = bounded-arrived _ (c .args .state .now .tasks) _ (test-bounded _ (c .args .state .now .limited)) in
+    (search needs, rw (c .arrive-came .ensures .tasks) s)

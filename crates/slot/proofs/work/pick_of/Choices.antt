@@ -10,4 +10,4 @@ Inv-loop-i g l =
     (length (l .seen) ≡ 8)
     × (l .count ≡ l .i)
     × (take (l .i) (l .seen) ++ sees (task-views (g .S·Stream .meaning) (drop (l .i) (l .plan .tasks))) (drop (l .i) (l .tasks))
-       ≡ sees (task-views (g .S·Stream .meaning) (l .plan .tasks)) (l .tasks))
+    ≡ sees (task-views (g .S·Stream .meaning) (l .plan .tasks)) (l .tasks))

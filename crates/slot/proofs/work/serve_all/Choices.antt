@@ -15,5 +15,5 @@ use Rattle.slot.proofs.work.serve_all.Given as given
 abbrev pub Inv-loop-i : given.InvT-loop-i
 Inv-loop-i g l =
     Onward (l .i) (l .tasks) (l .ended) (l .may-choose) (l .late)
-      (serve-all (l .pick) (l .stay) (l .i + 1) (task-views (g .S·Stream .meaning) (drop (l .i) (l .plan .tasks))) (drop (l .i) (l .tasks)))
-      (serve-all (l .pick) (l .stay) 1 (task-views (g .S·Stream .meaning) (l .plan .tasks)) (l .before))
+    (serve-all (l .pick) (l .stay) (l .i + 1) (task-views (g .S·Stream .meaning) (drop (l .i) (l .plan .tasks))) (drop (l .i) (l .tasks)))
+    (serve-all (l .pick) (l .stay) 1 (task-views (g .S·Stream .meaning) (l .plan .tasks)) (l .before))

@@ -11,7 +11,7 @@ abbrev pub Inv-loop-at : given.InvT-loop-at
 Inv-loop-at l =
     (l .at ≤ length (l .bytes))
     × (add-records (Ok (task-views kind-meaning (l .plan .tasks))) (records (9 - length (task-views kind-meaning (l .plan .tasks))) (drop (l .at) (l .bytes)))
-       ≡ read-plan (l .bytes))
+    ≡ read-plan (l .bytes))
 
 abbrev pub μ-loop-at : given.MeasureT-loop-at
 μ-loop-at l = length (l .bytes) - l .at
