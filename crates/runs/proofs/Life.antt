@@ -11,7 +11,7 @@ use Rattle.std.specs.declared.option.Option.{Option}
 use Rattle.std.specs.declared.option.Option.the-variants.{Some, None}
 use Rattle.std.proofs.shelf.Tests.{cases-bool, cases-eq, cases-order, both-ways}
 use Rattle.slot.specs.declared.state.Job.{Job}
-use Rattle.slot.specs.Tasks.{TaskView}
+use Rattle.plans.specs.Tasks.{TaskView}
 use Rattle.slot.specs.Work.{serve-job}
 use Rattle.runs.proofs.Releases.{given, overlap-is}
 use Rattle.runs.specs.Dispatch.{Age-as-shown}

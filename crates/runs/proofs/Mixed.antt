@@ -13,7 +13,7 @@ use Rattle.std.specs.declared.option.Option.{Option}
 use Rattle.std.specs.declared.option.Option.the-variants.{Some, None}
 use Rattle.slot.specs.declared.state.TaskState.{TaskState}
 use Rattle.slot.specs.Arrivals.{choices, come, arrived}
-use Rattle.slot.specs.Tasks.{TaskView}
+use Rattle.plans.specs.Tasks.{TaskView}
 use Rattle.slot.specs.Arrivals.{arrivals-in}
 
 abbrev pub mixed : List TaskView → List TaskState → (ℕ → ℕ) → ℕ

@@ -21,7 +21,7 @@ use Rattle.outcome.specs.declared.Ended.{Ended}
 use Rattle.slot.specs.declared.state.Job.{Job}
 use Rattle.slot.specs.declared.state.TaskState.{TaskState}
 use Rattle.slot.specs.Arrivals.{choices, arrived, overlapping}
-use Rattle.slot.specs.Tasks.{TaskView}
+use Rattle.plans.specs.Tasks.{TaskView}
 use Rattle.outcome.specs.declared.Outcome.{Outcome}
 use Rattle.outcome.specs.declared.Outcome.the-variants.{Void as void, Late as late, Next as next}
 use Rattle.slot.specs.Slot.{StateView, slot}

@@ -15,7 +15,7 @@ use Rattle.dispatch.specs.declared.Seen.{Seen}
 use Rattle.dispatch.specs.Picks.{Picks, job-at, has-job, by-priority, by-age, waited}
 use Rattle.dispatch.specs.Order.{key-at, key-of, Before, Foremost}
 use Rattle.dispatch.proofs.Foremost.{priority-first, age-first}
-use Rattle.slot.specs.Tasks.{TaskView}
+use Rattle.plans.specs.Tasks.{TaskView}
 use Rattle.slot.specs.Slot.{start-state}
 use Rattle.runs.specs.Dispatch.{Age-as-shown, Seen-as-shown, last-runner, Dispatch-law, Highest, Priority-law, Oldest, Waiting-law}
 use Rattle.runs.specs.Lateness.{Overlaps}

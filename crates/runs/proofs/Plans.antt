@@ -8,16 +8,12 @@ use Rattle.std.specs.Finite.{nth}
 use Rattle.std.specs.declared.option.Option.{Option}
 use Rattle.std.specs.declared.option.Option.the-variants.{Some, None}
 use Rattle.streams.specs.Meaning.{Meaning, Sound}
-use Rattle.slot.specs.declared.plan.Task.{Task}
-use Rattle.slot.specs.Tasks.{TaskView, task-view, task-views}
+use Rattle.plans.specs.declared.plan.Task.{Task}
+use Rattle.plans.specs.Tasks.{TaskView, task-view, task-views}
+use Rattle.plans.proofs.Views.{views-few}
 use Rattle.runs.specs.Run.{Timed, Proper}
 
 module _ {S : Type 0} (meaning : S → Meaning) (law : (s : S) → Sound (meaning s)) where
-  few-of : (ts : List (Option (Task S))) → length (task-views meaning ts) ≤ length ts
-  few-of [] = omega arith
-  few-of (None ∷ ts) = omega arith
-  few-of (Some t ∷ ts) = let ih = few-of ts in omega arith
-
   one-of : (ts : List (Option (Task S))) (i : ℕ) (d : TaskView) → nth (task-views meaning ts) i ≡ Some d → Timed d × Sound (d .stream)
   one-of [] i d h = let z : _≡_ {A = ℕ} 0 1 = cc in elim (let no : ⊥ = omega arith in no) [ ]
   one-of (None ∷ ts) i d h = let z : _≡_ {A = ℕ} 0 1 = cc in elim (let no : ⊥ = omega arith in no) [ ]
@@ -28,7 +24,7 @@ module _ {S : Type 0} (meaning : S → Meaning) (law : (s : S) → Sound (meanin
 
   pub proper-plan : (ts : List (Option (Task S))) → length ts ≡ 8 → Proper (task-views meaning ts)
   proper-plan ts h = record {
-    few = omega (arith, few-of ts);
+    few = omega (arith, views-few meaning ts);
     timed = λ i d e. one-of ts i d e .0;
     sound = λ i d e. one-of ts i d e .1;
   }

@@ -12,7 +12,7 @@ use Rattle.dispatch.specs.Picks.{Picks}
 use Rattle.outcome.specs.declared.Cause.{Cause}
 use Rattle.outcome.specs.declared.Ended.{Ended}
 use Rattle.slot.specs.declared.event.Event.{Event}
-use Rattle.slot.specs.Tasks.{TaskView}
+use Rattle.plans.specs.Tasks.{TaskView}
 use Rattle.outcome.specs.declared.Outcome.the-variants.{Late as late, Next as next}
 use Rattle.slot.specs.Slot.{StateView, slot, event}
 use Rattle.runs.specs.Run.{Ending, ends-in, ends-late, RunFrom, empty, last-late, way-then}

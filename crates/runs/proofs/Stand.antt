@@ -1,7 +1,7 @@
 -- All laws over runs, for every plan and rule. Assumes nothing.
 use mathlib.Core.List.{List}
 use Rattle.dispatch.specs.Picks.{Picks}
-use Rattle.slot.specs.Tasks.{TaskView}
+use Rattle.plans.specs.Tasks.{TaskView}
 use Rattle.runs.specs.Run.{Proper}
 use Rattle.runs.specs.Laws.{Run-laws}
 use Rattle.runs.proofs.Whole.{responses-stand, unfinished-stands}

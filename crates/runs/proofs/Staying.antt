@@ -16,7 +16,7 @@ use Rattle.outcome.specs.declared.Cause.{Cause}
 use Rattle.outcome.specs.declared.Cause.the-variants.{Overlap, Deadline}
 use Rattle.slot.specs.declared.state.Job.{Job}
 use Rattle.slot.specs.declared.state.TaskState.{TaskState}
-use Rattle.slot.specs.Tasks.{TaskView}
+use Rattle.plans.specs.Tasks.{TaskView}
 use Rattle.slot.specs.Slot.{StateView}
 use Rattle.slot.specs.Work.{serve}
 use Rattle.runs.specs.Lateness.{Overlaps, Misses-deadline, Smallest, Lateness, Lateness-law}

@@ -17,7 +17,7 @@ use Rattle.outcome.specs.declared.Ended.{Ended}
 use Rattle.slot.specs.declared.state.Job.{Job}
 use Rattle.slot.specs.declared.state.TaskState.{TaskState}
 use Rattle.slot.specs.Arrivals.{come, arrived, overlapping}
-use Rattle.slot.specs.Tasks.{TaskView}
+use Rattle.plans.specs.Tasks.{TaskView}
 use Rattle.dispatch.specs.declared.Seen.{Seen}
 use Rattle.slot.specs.Slot.{firsts}
 use Rattle.slot.specs.Work.{sees, age-of, serve, serve-job, serve-all, ended-by}

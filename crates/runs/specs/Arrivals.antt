@@ -5,7 +5,7 @@ use Prim.Native.Nat.{ℕ}
 use Rattle.streams.specs.Rule.{Shown}
 use Rattle.dispatch.specs.Picks.{Picks}
 use Rattle.slot.specs.declared.event.Event.{Event}
-use Rattle.slot.specs.Tasks.{TaskView}
+use Rattle.plans.specs.Tasks.{TaskView}
 use Rattle.runs.specs.Run.{arrives, Ending, Run, Is-task}
 
 -- The arrivals that a run shows for task k, slot by slot.

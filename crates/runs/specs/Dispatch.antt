@@ -12,7 +12,7 @@ use Rattle.std.specs.declared.option.Option.the-variants.{Some, None}
 use Rattle.dispatch.specs.declared.Seen.{Seen}
 use Rattle.dispatch.specs.Picks.{Picks, by-priority, by-age}
 use Rattle.slot.specs.declared.event.Event.{Event}
-use Rattle.slot.specs.Tasks.{TaskView}
+use Rattle.plans.specs.Tasks.{TaskView}
 use Rattle.runs.specs.Run.{Ending, Run, event-at, Is-task}
 use Rattle.runs.specs.Pending.{Pending-in}
 use Rattle.runs.specs.Lateness.{Overlaps}

@@ -12,7 +12,7 @@ use Rattle.outcome.specs.declared.Cause.the-variants.{Overlap, Deadline}
 use Rattle.slot.specs.declared.state.Job.{Job}
 use Rattle.slot.specs.declared.state.TaskState.{TaskState}
 use Rattle.slot.specs.declared.event.Event.{Event}
-use Rattle.slot.specs.Tasks.{TaskView}
+use Rattle.plans.specs.Tasks.{TaskView}
 use Rattle.slot.specs.Slot.{StateView}
 use Rattle.runs.specs.Run.{arrives, Ending, ends-in, ends-late, Run, event-at, Is-task}
 use Rattle.runs.specs.Pending.{Pending-before}

@@ -1,7 +1,7 @@
 -- What holds of every run of a plan under a rule.
 use mathlib.Core.List.{List}
 use Rattle.dispatch.specs.Picks.{Picks}
-use Rattle.slot.specs.Tasks.{TaskView}
+use Rattle.plans.specs.Tasks.{TaskView}
 use Rattle.runs.specs.Response.{Response-law}
 use Rattle.runs.specs.Arrivals.{Arrivals-law}
 use Rattle.runs.specs.Dispatch.{Dispatch-law, Priority-law, Waiting-law}

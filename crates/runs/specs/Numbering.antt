@@ -6,7 +6,7 @@ use Prim.Native.Nat.{ℕ, _+_, _-_, _*_, _≤_, _<_}
 use lib.ListN.{length}
 use Rattle.dispatch.specs.Picks.{Picks}
 use Rattle.slot.specs.declared.event.Event.{Event}
-use Rattle.slot.specs.Tasks.{TaskView}
+use Rattle.plans.specs.Tasks.{TaskView}
 use Rattle.slot.specs.Arrivals.{choices}
 use Rattle.outcome.specs.declared.Outcome.the-variants.{Void}
 use Rattle.slot.specs.Slot.{StateView, slot, event}

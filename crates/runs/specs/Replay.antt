@@ -5,7 +5,7 @@ use Prim.Native.Nat.{ℕ, min, _≤_, _<_}
 use lib.ListN.{length, getD, take, drop}
 use Rattle.dispatch.specs.Picks.{Picks}
 use Rattle.slot.specs.declared.event.Event.{Event}
-use Rattle.slot.specs.Tasks.{TaskView}
+use Rattle.plans.specs.Tasks.{TaskView}
 use Rattle.outcome.specs.declared.Outcome.the-variants.{Void as NoWay}
 use Rattle.slot.specs.Slot.{StateView, slot, state-view}
 use Rattle.runs.specs.declared.Replayed.{Replayed}

@@ -7,7 +7,7 @@ use Rattle.std.specs.declared.option.Option.{Option}
 use Rattle.std.specs.declared.option.Option.the-variants.{Some, None}
 use Rattle.dispatch.specs.Picks.{Picks}
 use Rattle.slot.specs.declared.event.Event.{Event}
-use Rattle.slot.specs.Tasks.{TaskView}
+use Rattle.plans.specs.Tasks.{TaskView}
 use Rattle.runs.specs.Run.{arrives, is-picked, response, Ending, Run, event-at, Is-task}
 
 -- In how many of the c slots from slot a on task k is picked.

@@ -13,7 +13,7 @@ use Rattle.dispatch.specs.Picks.{Picks}
 use Rattle.outcome.specs.declared.Cause.{Cause}
 use Rattle.outcome.specs.declared.Ended.{Ended}
 use Rattle.slot.specs.declared.event.Event.{Event}
-use Rattle.slot.specs.Tasks.{TaskView}
+use Rattle.plans.specs.Tasks.{TaskView}
 use Rattle.outcome.specs.declared.Outcome.the-variants.{Late, Next}
 use Rattle.slot.specs.Slot.{StateView, slot, start-state, event}
 

@@ -10,7 +10,7 @@ use Rattle.std.specs.declared.option.Option.the-variants.{Some, None}
 use Rattle.streams.specs.Meaning.{IsRun, pattern}
 use Rattle.dispatch.specs.Picks.{Picks}
 use Rattle.slot.specs.declared.event.Event.{Event}
-use Rattle.slot.specs.Tasks.{TaskView}
+use Rattle.plans.specs.Tasks.{TaskView}
 use Rattle.runs.specs.Run.{is-picked, response, Ending, ends-in, ends-late, Run, event-at, Is-task}
 use Rattle.runs.specs.Pending.{Pending-in}
 use Rattle.runs.specs.Response.{executed}

@@ -1,12 +1,12 @@
 // Runs of a plan: replaying a list of ways, and the laws over whole runs.
-ghost use Rattle.slot.specs.Tasks.{task-views};
+ghost use Rattle.plans.specs.Tasks.{task-views};
 ghost use Rattle.runs.specs.Laws.{Run-laws};
 ghost use Rattle.runs.specs.Replay.{Replays};
 use dispatch::Dispatch;
 use outcome::Cause;
 use outcome::Outcome;
+use plans::plan::Plan;
 use slot::event::Event;
-use slot::plan::Plan;
 use slot::start;
 use slot::state::State;
 use slot::walk;

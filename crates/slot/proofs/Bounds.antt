@@ -11,12 +11,12 @@ use Rattle.std.specs.declared.option.Option.{Option}
 use Rattle.std.specs.declared.option.Option.the-variants.{Some, None}
 use Rattle.std.proofs.shelf.Tests.{cases-bool, and-parts, and-from}
 use Rattle.streams.specs.Meaning.{Meaning}
-use Rattle.slot.specs.declared.plan.Task.{Task}
+use Rattle.plans.specs.declared.plan.Task.{Task}
 use Rattle.slot.specs.declared.state.Job.{Job}
 use Rattle.slot.specs.declared.state.TaskState.{TaskState}
-use Rattle.slot.specs.Limits.{deadline-limit}
+use Rattle.plans.specs.Limits.{deadline-limit}
 use Rattle.slot.specs.Bounded.{Job-bounded, Bounded, job-bounded, bounded}
-use Rattle.slot.specs.Tasks.{TaskView, task-view, task-views}
+use Rattle.plans.specs.Tasks.{TaskView, task-view, task-views}
 use Rattle.slot.specs.Slot.{firsts}
 use Rattle.slot.specs.Work.{serve, serve-job, works, serve-all}
 

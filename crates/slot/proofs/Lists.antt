@@ -16,23 +16,11 @@ use lib.Pow.{pow-add}
 use Rattle.std.specs.declared.option.Option.{Option}
 use Rattle.std.specs.declared.option.Option.the-variants.{Some, None}
 use Rattle.std.proofs.shelf.Lists.{drop-more, drop-all, drop-set-lt}
-use Rattle.streams.specs.Meaning.{Meaning}
-use Rattle.slot.specs.declared.plan.Task.{Task}
 use Rattle.slot.specs.declared.state.TaskState.{TaskState}
 use Rattle.slot.specs.declared.arrive.Arrival.{Arrival}
+use Rattle.slot.specs.Slot.{firsts}
 use Rattle.slot.specs.Arrivals.{choices, come, arrived, overlapping, arrivals-in, overlaps}
-use Rattle.slot.specs.Tasks.{TaskView, task-view, task-views}
-
-module _ {S : Type 0} (meaning : S → Meaning) where
-  -- at a task, the duties from i on begin with it
-  pub task-views-more : (ts : List (Option (Task S))) (i : ℕ) (d : Option (Task S)) (t : Task S) → i < length ts → getD ts i d ≡ Some t →
-      task-views meaning (drop i ts) ≡ task-view meaning t ∷ task-views meaning (drop (i + 1) ts)
-  task-views-more ts i d t h e = rw (drop-more ts i d h, e) refl
-
-  -- at a free place they end
-  pub task-views-end : (ts : List (Option (Task S))) (i : ℕ) (d : Option (Task S)) → i < length ts → getD ts i d ≡ None →
-      task-views meaning (drop i ts) ≡ []
-  task-views-end ts i d h e = rw (drop-more ts i d h, e) refl
+use Rattle.plans.specs.Tasks.{TaskView}
 
 -- one more place of both
 pub choices-more : (ds es : List TaskView) (ss : List TaskState) (i : ℕ) (d : TaskView) (s : TaskState) → ds ≡ d ∷ es → i < length ss →
@@ -139,3 +127,16 @@ flags-rest ss bs i v b l h e =
     let e′ : getD bs i false ∷ drop (i + 1) bs ≡ false ∷ map (λ _. false) (drop (i + 1) ss) = sym f ∙ e ∙ ap (map (λ _. false)) g in
     let e″ : drop (i + 1) bs ≡ map (λ _. false) (drop (i + 1) ss) = cc in
     p ∙ e″ ∙ ap (map (λ _. false)) (sym q)
+
+-- one task's first position more
+pub firsts-more : (ds es : List TaskView) (ss : List TaskState) (i : ℕ) (d : TaskView) (s v : TaskState) → ds ≡ d ∷ es → i < length ss →
+    v ≡ record { position = d .stream .first; job = None } →
+    take (i + 1) (set ss i v) ++ firsts es (drop (i + 1) (set ss i v)) ≡ take i ss ++ firsts ds (drop i ss)
+firsts-more ds es ss i d s v begins within ev =
+    let front : take (i + 1) (set ss i v) ≡ take i ss ++ (v ∷ []) = rw add-one (take-suc-set ss i v within) in
+    let back : drop (i + 1) (set ss i v) ≡ drop (i + 1) ss = drop-set-lt (i + 1) ss i v (omega arith) in
+    let more : firsts ds (drop i ss) ≡ v ∷ firsts es (drop (i + 1) ss) = rw (begins, drop-more ss i s within, ev) refl in
+    rw (front, back, more) (append-assoc (take i ss) (v ∷ []) (firsts es (drop (i + 1) ss)))
+
+pub firsts-done : (ds : List TaskView) (ss out : List TaskState) (i : ℕ) → ds ≡ [] → take i ss ++ firsts ds (drop i ss) ≡ out → ss ≡ out
+firsts-done ds ss out i e h = sym (take-append-drop i ss) ∙ (rw e at h)

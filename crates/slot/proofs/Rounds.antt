@@ -21,7 +21,7 @@ use Rattle.slot.specs.declared.state.TaskState.{TaskState}
 use Rattle.slot.specs.Arrivals.{come, arrived, job-after}
 use Rattle.slot.specs.declared.arrive.Release.{Release}
 use Rattle.slot.specs.declared.arrive.Release.the-variants.{Quiet, NewJob, Overlapping}
-use Rattle.slot.specs.Tasks.{TaskView}
+use Rattle.plans.specs.Tasks.{TaskView}
 use Rattle.slot.specs.declared.work.Round.{Round}
 use Rattle.slot.specs.declared.work.Served.{Served}
 use Rattle.slot.specs.Work.{serve, serve-all, ended-by, either, sees, age-of}

@@ -9,7 +9,7 @@ use Rattle.slot.specs.declared.state.TaskState.{TaskState}
 use Rattle.slot.specs.declared.arrive.Release.{Release}
 use Rattle.slot.specs.declared.arrive.Release.the-variants.{Quiet, NewJob, Overlapping}
 use Rattle.slot.specs.declared.arrive.Arrival.{Arrival}
-use Rattle.slot.specs.Tasks.{TaskView}
+use Rattle.plans.specs.Tasks.{TaskView}
 
 -- A: how many ways the streams have together.
 abbrev pub choices : List TaskView → List TaskState → ℕ

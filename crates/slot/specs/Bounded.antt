@@ -3,7 +3,7 @@ use mathlib.Core.List.{List, [], _∷_}
 use mathlib.Core.Bool.{Bool, true, _&&_}
 use Prim.Native.Nat.{_≤_}
 use lib.Dec.{leb}
-use Rattle.slot.specs.Limits.{deadline-limit}
+use Rattle.plans.specs.Limits.{deadline-limit}
 use Rattle.std.specs.declared.option.Option.{Option}
 use Rattle.std.specs.declared.option.Option.the-variants.{Some, None}
 use Rattle.slot.specs.declared.state.Job.{Job}

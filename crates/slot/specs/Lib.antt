@@ -1,10 +1,4 @@
-pub mod Limits
 pub mod Bounded
-pub mod Packed
-pub mod Tasks
 pub mod Arrivals
 pub mod Work
 pub mod Slot
-pub mod Fields
-pub mod Adding
-pub mod Record

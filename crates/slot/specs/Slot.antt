@@ -16,7 +16,7 @@ use Rattle.slot.specs.declared.state.TaskState.{TaskState}
 use Rattle.slot.specs.declared.state.State.{State}
 use Rattle.slot.specs.declared.event.Event.{Event}
 use Rattle.slot.specs.declared.work.Round.{Round}
-use Rattle.slot.specs.Tasks.{TaskView}
+use Rattle.plans.specs.Tasks.{TaskView}
 use Rattle.slot.specs.Arrivals.{choices, arrived, arrivals-in, overlapping}
 use Rattle.slot.specs.Work.{sees, serve-all}
 

@@ -11,7 +11,7 @@ use Rattle.slot.specs.declared.state.Job.{Job}
 use Rattle.slot.specs.declared.state.TaskState.{TaskState}
 use Rattle.slot.specs.declared.work.Served.{Served}
 use Rattle.slot.specs.declared.work.Round.{Round}
-use Rattle.slot.specs.Tasks.{TaskView}
+use Rattle.plans.specs.Tasks.{TaskView}
 
 -- What the rule sees of the tasks.
 abbrev pub age-of : Option Job → Option ℕ

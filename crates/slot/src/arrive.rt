@@ -3,13 +3,13 @@ ghost use mathlib.Core.Path.{_≡_};
 ghost use mathlib.Core.Bool.{cond};
 ghost use Prim.Native.Nat.{_≤_};
 ghost use lib.Dec.{eqb};
-ghost use Rattle.slot.specs.Tasks.{task-view, task-views};
+ghost use Rattle.plans.specs.Tasks.{task-view, task-views};
 ghost use Rattle.slot.specs.Arrivals.{choices, release-of, job-after, overlaps, come as coming, arrived, arrivals-in, overlapping};
-use crate::plan::Plan;
-use crate::plan::Task;
 use crate::state::Job;
 use crate::state::State;
 use crate::state::TaskState;
+use plans::plan::Plan;
+use plans::plan::Task;
 use streams::Stream;
 
 // What a stream's answer brings to its task: nothing, a new job, or an arrival that overlaps a job that stands.

@@ -1,10 +1,10 @@
 // The start state.
 ghost use mathlib.Core.Path.{_≡_};
-ghost use Rattle.slot.specs.Tasks.{task-views};
+ghost use Rattle.plans.specs.Tasks.{task-views};
 ghost use Rattle.slot.specs.Slot.{state-view, start-state};
-use crate::plan::Plan;
 use crate::state::State;
 use crate::state::TaskState;
+use plans::plan::Plan;
 use streams::Stream;
 
 // The streams at their first positions, no jobs, and no last runner.

@@ -3,14 +3,13 @@ ghost use mathlib.Core.Path.{_≡_};
 ghost use mathlib.Core.Bool.{true};
 ghost use Prim.Native.Nat.{_≤_, _*_};
 ghost use lib.ListN.{length};
-ghost use Rattle.slot.specs.Tasks.{task-views};
+ghost use Rattle.plans.specs.Tasks.{task-views};
 ghost use Rattle.slot.specs.Arrivals.{choices};
 ghost use Rattle.slot.specs.Bounded.{bounded};
 ghost use Rattle.slot.specs.Slot.{slot, settled, state-view, outcome-view, ended-in, event};
 use crate::arrive::arrive;
 use crate::arrive::stream_ways;
 use crate::event::Event;
-use crate::plan::Plan;
 use crate::state::State;
 use crate::work::Round;
 use crate::work::pick_of;
@@ -19,6 +18,7 @@ use dispatch::Dispatch;
 use outcome::Cause;
 use outcome::Ended;
 use outcome::Outcome;
+use plans::plan::Plan;
 use streams::Stream;
 
 // How many ways a state has: two for each choice of ways of the streams.

@@ -3,17 +3,17 @@ ghost use mathlib.Core.Path.{_≡_};
 ghost use mathlib.Core.Bool.{true};
 ghost use lib.ListN.{length};
 ghost use Rattle.std.specs.declared.option.Option.the-variants.{None};
-ghost use Rattle.slot.specs.Tasks.{task-view, task-views};
+ghost use Rattle.plans.specs.Tasks.{task-view, task-views};
 ghost use Rattle.slot.specs.Work.{serve as served, serve-all, ended-by, either, sees, age-of};
 ghost use Rattle.slot.specs.Bounded.{Job-bounded, Bounded, bounded};
 use crate::arrive::first_of;
-use crate::plan::Plan;
-use crate::plan::Task;
 use crate::state::Job;
 use crate::state::TaskState;
 use dispatch::Dispatch;
 use dispatch::Seen;
 use outcome::Ended;
+use plans::plan::Plan;
+use plans::plan::Task;
 use streams::Stream;
 
 // What a slot does with one task's job: how the task stands after it, the response of a job that ended, whether the job

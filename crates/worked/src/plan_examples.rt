@@ -1,9 +1,9 @@
 // Plan records: what is accepted, and each refusal with its places.
+use plans::plan::Plan;
+use plans::record::Kind;
 use refusals::Fault;
 use refusals::FaultDebug;
 use refusals::FaultPartialEq;
-use slot::plan::Plan;
-use slot::record::Kind;
 use std::test::*;
 use streams::either::Either;
 use streams::either::EitherStream;

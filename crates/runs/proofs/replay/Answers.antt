@@ -7,7 +7,7 @@ use lib.ListN.{length, length-set, take, drop, set}
 use Rattle.std.proofs.shelf.Lists.{drop-more, drop-set-lt}
 use Rattle.dispatch.specs.Picks.{Picks}
 use Rattle.slot.specs.declared.event.Event.{Event}
-use Rattle.slot.specs.Tasks.{TaskView, task-views}
+use Rattle.plans.specs.Tasks.{TaskView, task-views}
 use Rattle.slot.specs.Slot.{StateView, state-view, start-state}
 use Rattle.runs.specs.Run.{ends-in, Run, RunFrom, empty}
 use Rattle.runs.proofs.Plans.{proper-plan}

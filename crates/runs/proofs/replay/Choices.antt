@@ -1,6 +1,6 @@
 use mathlib.Core.Path.{_≡_}
 use lib.ListN.{length, take, drop}
-use Rattle.slot.specs.Tasks.{task-views}
+use Rattle.plans.specs.Tasks.{task-views}
 use Rattle.slot.specs.Slot.{state-view}
 use Rattle.runs.specs.Run.{ends-in, Run}
 use Rattle.runs.proofs.replay.Given as given

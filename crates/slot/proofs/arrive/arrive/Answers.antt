@@ -11,8 +11,9 @@ use Rattle.std.proofs.shelf.Lists.{drop-all}
 use Rattle.slot.specs.declared.state.TaskState.{TaskState}
 use Rattle.slot.specs.Arrivals.{overlaps, arrived, overlapping}
 use Rattle.slot.specs.declared.arrive.Arrival.{Arrival}
-use Rattle.slot.specs.Tasks.{task-view, task-views}
-use Rattle.slot.proofs.Lists.{flag-more, flags-rest, no-flags, done-flags, task-views-more, task-views-end, arrived-more, overlap-more, done-tasks, done-overlap}
+use Rattle.plans.specs.Tasks.{task-view, task-views}
+use Rattle.plans.proofs.Views.{task-views-more, task-views-end}
+use Rattle.slot.proofs.Lists.{flag-more, flags-rest, no-flags, done-flags, arrived-more, overlap-more, done-tasks, done-overlap}
 use Rattle.slot.proofs.arrive.arrive.Needs as need
 
 abbrev nothing : TaskState

@@ -5,7 +5,7 @@ use Prim.Native.Nat.{_+_, _≤_}
 use lib.Dec.{eqb}
 use lib.ListN.{length, take, drop}
 use Rattle.slot.specs.Arrivals.{arrivals-in, arrived, overlapping}
-use Rattle.slot.specs.Tasks.{task-views}
+use Rattle.plans.specs.Tasks.{task-views}
 use Rattle.slot.proofs.arrive.arrive.Given as given
 
 -- what is done, with what is left to do, is the answer

@@ -9,8 +9,9 @@ use Rattle.std.specs.declared.option.Option.the-variants.{None}
 use Rattle.std.proofs.shelf.Lists.{drop-all}
 use Rattle.slot.specs.declared.state.TaskState.{TaskState}
 use Rattle.slot.specs.Arrivals.{choices}
-use Rattle.slot.specs.Tasks.{task-view, task-views}
-use Rattle.slot.proofs.Lists.{task-views-more, task-views-end, choices-more, four-pow, four-all}
+use Rattle.plans.specs.Tasks.{task-view, task-views}
+use Rattle.plans.proofs.Views.{task-views-more, task-views-end}
+use Rattle.slot.proofs.Lists.{choices-more, four-pow, four-all}
 use Rattle.slot.proofs.arrive.stream_ways.Needs as need
 
 pub mul-all : need.mul-all

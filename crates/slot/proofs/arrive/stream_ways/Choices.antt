@@ -2,7 +2,7 @@ use mathlib.Core.Path.{_≡_}
 use Prim.Native.Nat.{_*_, _^_, _≤_}
 use lib.ListN.{drop}
 use Rattle.slot.specs.Arrivals.{choices}
-use Rattle.slot.specs.Tasks.{task-views}
+use Rattle.plans.specs.Tasks.{task-views}
 use Rattle.slot.proofs.arrive.stream_ways.Given as given
 
 abbrev pub Inv-loop-i : given.InvT-loop-i

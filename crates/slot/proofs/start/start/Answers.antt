@@ -6,10 +6,10 @@ use lib.ListN.{length, length-set, drop, replicate}
 use Rattle.std.specs.declared.option.Option.the-variants.{None}
 use Rattle.std.proofs.shelf.Lists.{drop-all}
 use Rattle.slot.specs.declared.state.TaskState.{TaskState}
-use Rattle.slot.specs.Tasks.{task-view, task-views}
+use Rattle.plans.specs.Tasks.{task-view, task-views}
 use Rattle.slot.specs.Slot.{start-state}
-use Rattle.slot.proofs.Lists.{task-views-more, task-views-end}
-use Rattle.slot.proofs.Places.{firsts-more, firsts-done}
+use Rattle.plans.proofs.Views.{task-views-more, task-views-end}
+use Rattle.slot.proofs.Lists.{firsts-more, firsts-done}
 use Rattle.slot.proofs.Bounds.{bounded-firsts}
 use Rattle.slot.proofs.start.start.Needs as need
 use Rattle.slot.proofs.start.start.Needs.{else-loop-i-test, then-loop-i-test·in-rest}

@@ -5,7 +5,7 @@ use Prim.Native.Nat.{ℕ, _%_}
 use lib.Dec.{eqb}
 use borrow.Author.Tests.{ne-eqb, eq-eqb}
 use Rattle.dispatch.specs.Picks.{Picks}
-use Rattle.slot.specs.Tasks.{TaskView, task-views}
+use Rattle.plans.specs.Tasks.{TaskView, task-views}
 use Rattle.slot.specs.Arrivals.{choices, arrived, arrivals-in, overlapping}
 use Rattle.slot.specs.Work.{sees}
 use Rattle.slot.specs.Slot.{StateView, state-view, ended-in, event}

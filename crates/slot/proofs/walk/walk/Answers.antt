@@ -2,7 +2,7 @@ use mathlib.Core.Path.{_≡_, sym}
 use native.Mathlib.Omega.{arith}
 use borrow.Author.Needs.{needs}
 use Rattle.slot.specs.Arrivals.{arrived}
-use Rattle.slot.specs.Tasks.{task-views}
+use Rattle.plans.specs.Tasks.{task-views}
 use Rattle.slot.specs.Bounded.{Bounded}
 use Rattle.slot.proofs.Rounds.{bounded-arrived}
 use Rattle.slot.proofs.Bounds.{test-bounded}

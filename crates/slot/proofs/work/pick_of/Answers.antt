@@ -7,9 +7,9 @@ use lib.ListN.{length, length-set, length-take, take, drop}
 use Rattle.std.specs.declared.option.Option.the-variants.{None}
 use Rattle.std.proofs.shelf.Lists.{drop-all}
 use Rattle.slot.specs.declared.state.TaskState.{TaskState}
-use Rattle.slot.specs.Tasks.{task-view, task-views}
+use Rattle.plans.specs.Tasks.{task-view, task-views}
 use Rattle.slot.specs.Work.{sees}
-use Rattle.slot.proofs.Lists.{task-views-more, task-views-end}
+use Rattle.plans.proofs.Views.{task-views-more, task-views-end}
 use Rattle.slot.proofs.Few.{picks-few}
 use Rattle.slot.proofs.Rounds.{sees-more, sees-done}
 use Rattle.slot.proofs.work.pick_of.Needs as need

@@ -1,7 +1,7 @@
 use mathlib.Core.Path.{_≡_}
 use mathlib.Core.List.{_++_}
 use lib.ListN.{length, take, drop}
-use Rattle.slot.specs.Tasks.{task-views}
+use Rattle.plans.specs.Tasks.{task-views}
 use Rattle.slot.specs.Work.{sees}
 use Rattle.slot.proofs.work.pick_of.Given as given
 

@@ -6,8 +6,8 @@ use Rattle.std.specs.declared.option.Option.the-variants.{None}
 use Rattle.std.proofs.shelf.Lists.{drop-all}
 use Rattle.slot.specs.declared.state.TaskState.{TaskState}
 use Rattle.slot.specs.declared.work.Round.{Round}
-use Rattle.slot.specs.Tasks.{task-view, task-views}
-use Rattle.slot.proofs.Lists.{task-views-more, task-views-end}
+use Rattle.plans.specs.Tasks.{task-view, task-views}
+use Rattle.plans.proofs.Views.{task-views-more, task-views-end}
 use Rattle.slot.proofs.Rounds.{bounded-here, onward-more, onward-done}
 use Rattle.slot.proofs.Bounds.{bounded-test, bounded-all, sane}
 use Rattle.slot.proofs.work.serve_all.Needs as need

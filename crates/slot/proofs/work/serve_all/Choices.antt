@@ -4,7 +4,7 @@ use mathlib.Core.List.{_++_}
 use Prim.Native.Nat.{_+_}
 use lib.Dec.{eqb}
 use lib.ListN.{length, take, drop}
-use Rattle.slot.specs.Tasks.{task-views}
+use Rattle.plans.specs.Tasks.{task-views}
 use Rattle.slot.specs.declared.work.Round.{Round}
 use Rattle.slot.specs.Work.{serve-all, either}
 use Rattle.slot.specs.Bounded.{Bounded}

@@ -1,0 +1,3 @@
+pub mod Views
+mod Places
+mod Records
