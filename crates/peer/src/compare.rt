@@ -83,7 +83,7 @@ impl Tally {
 }
 
 impl Trial {
-    pub fn new(heap: Global, seed: u32, quiet: u32) -> Trial {
+    pub(crate) fn new(heap: Global, seed: u32, quiet: u32) -> Trial {
         Trial {
             heap,
             draw: Draw { seed },
@@ -100,7 +100,7 @@ impl Trial {
     }
 
     // One way of a slot in both schedulers, and where it leads.
-    pub fn compare<D: Dispatch>(
+    pub(crate) fn compare<D: Dispatch>(
         &mut self,
         plan: &Plan<Streams>,
         rule: &D,
@@ -229,7 +229,7 @@ impl Trial {
     }
 
     // The plan of these tasks under each rule.
-    pub fn all_rules(&mut self, tasks: &[Numbers], slots: u32) -> Result<(), Fail> {
+    pub(crate) fn all_rules(&mut self, tasks: &[Numbers], slots: u32) -> Result<(), Fail> {
         let plan = plan_of(tasks)?;
         let heap = self.heap;
         let peer = Peer::new(heap, Rule::Priority, tasks)?;

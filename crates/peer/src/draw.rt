@@ -19,18 +19,18 @@ impl Draw {
     }
 
     // A number below the limit, or 0.
-    pub fn below(&mut self, limit: u32) -> u32 {
+    pub(crate) fn below(&mut self, limit: u32) -> u32 {
         self.number().checked_rem(limit).unwrap_or(0)
     }
 
     // A number from the low to the high one.
-    pub fn between(&mut self, low: u16, high: u16) -> u16 {
+    pub(crate) fn between(&mut self, low: u16, high: u16) -> u16 {
         let span = u32::from(high.saturating_sub(low)).saturating_add(1);
         low.saturating_add(u16::try_from(self.below(span)).unwrap_or(0))
     }
 
     // A way's number: one in five is past the last.
-    pub fn way(&mut self, ways: u32) -> u32 {
+    pub(crate) fn way(&mut self, ways: u32) -> u32 {
         let past = (ways / 4).saturating_add(1);
         self.below(ways.saturating_add(past))
     }
@@ -68,7 +68,7 @@ impl Draw {
     }
 
     // A task that works at most this long, by a deadline of at most this.
-    pub fn task(&mut self, span: u16, offset: u16, work: u16, deadline: u16) -> Numbers {
+    pub(crate) fn task(&mut self, span: u16, offset: u16, work: u16, deadline: u16) -> Numbers {
         let kind = self.kind(span, offset);
         let worst = self.between(1, work);
         let best = self.between(1, worst);

@@ -28,7 +28,7 @@ pub enum Falls {
 
 impl Kind {
     // Whether an arrival falls in this slot, after those in the past ones.
-    pub fn falls(self, past: &[u32], slot: u32) -> Falls {
+    pub(crate) fn falls(self, past: &[u32], slot: u32) -> Falls {
         match self {
             Kind::Periodic {
                 period,

@@ -1,15 +1,19 @@
-// A second scheduler, over the history of arrivals, to compare the library with.
+// A second scheduler, over the history of arrivals, and tests that compare the library with it.
+#[cfg(test)]
+mod compare;
 #[cfg(test)]
 mod draw;
 #[cfg(test)]
 mod drawn_plans;
-pub mod falls;
+#[cfg(test)]
+mod falls;
 #[cfg(test)]
 mod fixed_plans;
 #[cfg(test)]
 mod library;
-pub mod order;
-pub mod scheduler;
-pub mod shown;
 #[cfg(test)]
-mod compare;
+mod order;
+#[cfg(test)]
+mod scheduler;
+#[cfg(test)]
+mod shown;

@@ -35,7 +35,7 @@ fn stream(kind: Kind) -> Result<Streams, Fail> {
 }
 
 // The plan of these tasks.
-pub fn plan_of(tasks: &[Numbers]) -> Result<Plan<Streams>, Fail> {
+pub(crate) fn plan_of(tasks: &[Numbers]) -> Result<Plan<Streams>, Fail> {
     let mut plan = Plan::new();
     for t in tasks {
         plan.add_task(stream(t.kind)?, t.priority, t.best, t.worst, t.deadline)?;
@@ -43,14 +43,14 @@ pub fn plan_of(tasks: &[Numbers]) -> Result<Plan<Streams>, Fail> {
     Ok(plan)
 }
 
-pub fn cause_of(cause: Cause) -> PeerCause {
+pub(crate) fn cause_of(cause: Cause) -> PeerCause {
     match cause {
         Cause::Overlap => PeerCause::Overlap,
         Cause::Deadline => PeerCause::Deadline,
     }
 }
 
-pub fn done_of(ended: Option<Ended>) -> Option<Done> {
+pub(crate) fn done_of(ended: Option<Ended>) -> Option<Done> {
     match ended {
         Some(job) => Some(Done {
             task: job.task,
@@ -60,7 +60,7 @@ pub fn done_of(ended: Option<Ended>) -> Option<Done> {
     }
 }
 
-pub fn work_and_age(job: Option<Job>) -> Option<(u32, u32)> {
+pub(crate) fn work_and_age(job: Option<Job>) -> Option<(u32, u32)> {
     match job {
         Some(job) => Some((u32::from(job.work), u32::from(job.age))),
         None => None,

@@ -51,7 +51,7 @@ struct Place {
 }
 
 impl Open {
-    pub fn name(&self) -> Name
+    pub(crate) fn name(&self) -> Name
         ensures task { λ r. ⌜ r .task ≡ now (self .entry) .task ⌝ }
         ensures arrived { λ r. ⌜ r .arrived ≡ now (self .entry) .arrived ⌝ }
     {
@@ -90,7 +90,7 @@ impl Rule {
     }
 
     // The task of the job that runs, where `ran` is the job that was picked in the slot before. One runs wherever one is open.
-    pub fn pick(
+    pub(crate) fn pick(
         self,
         heap: Global,
         jobs: &[Open],

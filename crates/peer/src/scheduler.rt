@@ -54,7 +54,7 @@ enum Turn {
 
 impl Peer {
     // No slot has passed.
-    pub fn new(heap: Global, rule: Rule, all: &[Numbers]) -> Result<Peer, AllocError>
+    pub(crate) fn new(heap: Global, rule: Rule, all: &[Numbers]) -> Result<Peer, AllocError>
         ensures begins { λ r. ⌜ made r (λ p. (p .slot ≡ 0) × (vec-len (p .jobs) ≡ 0) × (p .ran ≡ None)) ⌝ }
         ensures all { λ r. ⌜ made r (λ p. vec-len (p .tasks) ≡ length (now (all .entry))) ⌝ }
     {
@@ -78,7 +78,7 @@ impl Peer {
     }
 
     // How many ways the next slot has: twice as many for each stream that may choose.
-    pub fn ways(&self) -> u32
+    pub(crate) fn ways(&self) -> u32
         ensures some { λ r. ⌜ 2 ≤ r ⌝ }
     {
         let mut ways = 2u32;
@@ -91,7 +91,7 @@ impl Peer {
     }
 
     // The work done on the task's open job and the slots since its arrival.
-    pub fn work_and_age(&self, task: u8) -> Option<(u32, u32)> {
+    pub(crate) fn work_and_age(&self, task: u8) -> Option<(u32, u32)> {
         for job in self.jobs.iter() {
             if job.task == task {
                 return Some((job.worked, self.slot.saturating_sub(job.arrived)));
@@ -101,7 +101,7 @@ impl Peer {
     }
 
     // The task that was picked in the slot before, if its job is still open.
-    pub fn runner(&self) -> Option<u8> {
+    pub(crate) fn runner(&self) -> Option<u8> {
         for job in self.jobs.iter() {
             if self.ran == Some(job.name()) {
                 return Some(job.task);
@@ -111,7 +111,7 @@ impl Peer {
     }
 
     // The next slot, by the way of this number.
-    pub fn slot(&self, heap: Global, way: u32) -> Result<PeerOutcome, AllocError> {
+    pub(crate) fn slot(&self, heap: Global, way: u32) -> Result<PeerOutcome, AllocError> {
         let Came { tasks, rest } = self.arriving(heap, way)?;
         if rest > 1 {
             return Ok(PeerOutcome::Void);
