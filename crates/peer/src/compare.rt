@@ -23,8 +23,8 @@ use dispatch::priority::PriorityDispatch;
 use dispatch::waiting::Waiting;
 use dispatch::waiting::WaitingDispatch;
 use outcome::Outcome;
-use slot::event::Event;
 use plans::plan::Plan;
+use slot::event::Event;
 use slot::start;
 use slot::state::State;
 use slot::walk;
@@ -83,10 +83,10 @@ impl Tally {
 }
 
 impl Trial {
-    pub(crate) fn new(heap: Global, seed: u32, quiet: u32) -> Trial {
+    pub(crate) fn new(heap: Global, last: u32, quiet: u32) -> Trial {
         Trial {
             heap,
-            draw: Draw { seed },
+            draw: Draw { last },
             quiet,
             tally: Tally {
                 slots: 0,

@@ -1,20 +1,20 @@
-// Numbers, tasks and ways, drawn from a seed.
+// Numbers, tasks and ways, drawn one from another.
 use crate::falls::Kind;
 use crate::order::Numbers;
 
 #[derive(Drop)]
 pub struct Draw {
-    pub seed: u32,
+    pub last: u32,
 }
 
 impl Draw {
     // The next number of the sequence, which never comes to 0 from another.
     fn number(&mut self) -> u32 {
-        let mut x = self.seed;
+        let mut x = self.last;
         x = x ^ x.wrapping_shl(13);
         x = x ^ x.wrapping_shr(17);
         x = x ^ x.wrapping_shl(5);
-        self.seed = x;
+        self.last = x;
         x
     }
 

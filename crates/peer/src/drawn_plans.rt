@@ -1,8 +1,8 @@
 // Plans that are drawn, with small numbers and with large ones, and one at the limits.
-use crate::falls::Kind;
-use crate::order::Numbers;
 use crate::compare::Tally;
 use crate::compare::Trial;
+use crate::falls::Kind;
+use crate::order::Numbers;
 use std::test::*;
 
 // So many tasks, with about as many slots between arrivals as the tasks ask for, times the slack.

@@ -1,4 +1,6 @@
 // Plans with a known run, in both schedulers.
+use crate::compare::Pair;
+use crate::compare::Trial;
 use crate::falls::Kind;
 use crate::library::plan_of;
 use crate::order::Numbers;
@@ -11,8 +13,6 @@ use crate::shown::PeerCause;
 use crate::shown::PeerCauseDebug;
 use crate::shown::PeerCausePartialEq;
 use crate::shown::PeerOutcome;
-use crate::compare::Pair;
-use crate::compare::Trial;
 use dispatch::priority::Priority;
 use dispatch::priority::PriorityDispatch;
 use slot::start;

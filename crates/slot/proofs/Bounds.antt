@@ -1,4 +1,4 @@
--- A slot that is not late keeps work and age small. Assumes nothing.
+-- A slot that is not late keeps work and age within bounds. Assumes nothing.
 use mathlib.Core.Path.{_≡_, refl, sym, ap, _∙_}
 use mathlib.Core.Bool.{Bool, true, false, cond, _&&_}
 use mathlib.Core.List.{List, [], _∷_}

@@ -1,4 +1,4 @@
--- A fair rule picks one of the tasks that it sees, or 0. Assumes nothing.
+-- A work-conserving rule picks one of the tasks that it sees, or 0. Assumes nothing.
 use mathlib.Core.Path.{_≡_, refl, sym, ap, _∙_}
 use mathlib.Core.Bool.{Bool, true, false}
 use mathlib.Core.List.{List, [], _∷_}
@@ -38,8 +38,8 @@ no-one ts h zero = refl
 no-one ts h (suc i) = h i
 
 pub picks-few : (picks : Picks) → WorkConserving picks → (ts : List Seen) (last : ℕ) → picks ts last ≤ length ts
-picks-few picks fair ts last =
+picks-few picks conserves ts last =
     elim (some-job ts) [
-      | inl h ↦ within ts (picks ts last) (fair .busy ts last (suc (h .0)) (h .1))
-      | inr h ↦ let z = fair .idle ts last (no-one ts h) in omega arith
+      | inl h ↦ within ts (picks ts last) (conserves .busy ts last (suc (h .0)) (h .1))
+      | inr h ↦ let z = conserves .idle ts last (no-one ts h) in omega arith
     ]

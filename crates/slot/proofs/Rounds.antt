@@ -1,4 +1,4 @@
--- A pass over the tasks, one by one. Assumes nothing.
+-- A round over the tasks, one by one. Assumes nothing.
 use mathlib.Core.Path.{_≡_, refl, sym, ap, _∙_}
 use mathlib.Core.List.{List, [], _∷_, _++_, append-assoc, append-nil}
 use mathlib.Core.Bool.{Bool, true, false, cond, _||_}

@@ -10,9 +10,9 @@ use Rattle.slot.specs.declared.event.Event.{Event}
 use Rattle.plans.specs.Tasks.{TaskView, task-views}
 use Rattle.slot.specs.Slot.{StateView, state-view, start-state}
 use Rattle.runs.specs.Run.{ends-in, Run, RunFrom, empty}
-use Rattle.runs.proofs.Plans.{proper-plan}
+use Rattle.runs.proofs.Proper.{proper-plan}
 use Rattle.runs.proofs.Replaying.{replay-next, replay-late, rest-more}
-use Rattle.runs.proofs.Stand.{laws-stand}
+use Rattle.runs.proofs.Laws.{laws-stand}
 use Rattle.runs.proofs.replay.Needs as need
 
 pub loop-i-holds : need.loop-i-holds

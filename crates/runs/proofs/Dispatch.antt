@@ -22,8 +22,8 @@ use Rattle.runs.specs.Lateness.{Overlaps}
 use Rattle.runs.specs.Pending.{Pending-in}
 use Rattle.runs.specs.Run.{arrives, Ending, Run, event-at, Proper, Is-task}
 use Rattle.slot.specs.declared.event.Event.{Event}
-use Rattle.runs.proofs.Whole.{slot-of, clear-picked}
-use Rattle.runs.proofs.Staying.{crossed-here}
+use Rattle.runs.proofs.Response.{slot-of, clear-picked}
+use Rattle.runs.proofs.Lateness.{crossed-here}
 
 pub dispatch-stands : (ds : List TaskView) (picks : Picks) → Proper ds → Dispatch-law ds picks
 dispatch-stands ds picks proper ways trace end r n p clear =

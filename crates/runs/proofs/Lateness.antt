@@ -23,10 +23,10 @@ use Rattle.runs.specs.Lateness.{Overlaps, Misses-deadline, Smallest, Lateness,
 use Rattle.runs.specs.Pending.{Pending-before}
 use Rattle.runs.specs.Run.{arrives, is-picked, Ending, ends-in, ends-late, Run, event-at, Timed, Proper, Is-task}
 use Rattle.slot.specs.declared.event.Event.{Event}
-use Rattle.runs.proofs.Invert.{mix, come-to, chosen, stays, round, Clear, Crossed, Tardy}
-use Rattle.runs.proofs.Tasks.{Crossing, crossing, Staying-job, staying-job}
-use Rattle.runs.proofs.Life.{Lives, none-pending}
-use Rattle.runs.proofs.Whole.{timed-of, Know, did, clear-expires, clear-timely, clear-apart, Calm, Calm-from, Ready, Last, Final, told}
+use Rattle.runs.proofs.Outcomes.{mix, come-to, chosen, stays, round, Clear, Crossed, Tardy}
+use Rattle.runs.proofs.TaskSlots.{Crossing, crossing, Staying-job, staying-job}
+use Rattle.runs.proofs.JobLife.{Lives, none-pending}
+use Rattle.runs.proofs.Response.{timed-of, Know, did, clear-expires, clear-timely, clear-apart, Calm, Calm-from, Ready, Last, Final, told}
 
 same : {X : Type 0} (a b : X) → Some a ≡ Some b → a ≡ b
 same a b h = cc

@@ -4,12 +4,12 @@ use Rattle.dispatch.specs.Picks.{Picks}
 use Rattle.plans.specs.Tasks.{TaskView}
 use Rattle.runs.specs.Run.{Proper}
 use Rattle.runs.specs.Laws.{Run-laws}
-use Rattle.runs.proofs.Whole.{responses-stand, unfinished-stands}
-use Rattle.runs.proofs.Arrive.{arrivals-stand}
-use Rattle.runs.proofs.Picking.{dispatch-stands, priority-stands, waiting-stands}
-use Rattle.runs.proofs.Wishing.{choice-stands, work-stands}
-use Rattle.runs.proofs.Staying.{lateness-stands}
-use Rattle.runs.proofs.Numbers.{numbering-stands}
+use Rattle.runs.proofs.Response.{responses-stand, unfinished-stands}
+use Rattle.runs.proofs.Arrivals.{arrivals-stand}
+use Rattle.runs.proofs.Dispatch.{dispatch-stands, priority-stands, waiting-stands}
+use Rattle.runs.proofs.Work.{choice-stands, work-stands}
+use Rattle.runs.proofs.Lateness.{lateness-stands}
+use Rattle.runs.proofs.Numbering.{numbering-stands}
 
 pub laws-stand : (ts : List TaskView) (picks : Picks) → Proper ts → Run-laws ts picks
 laws-stand ts picks proper = record {

@@ -1,4 +1,4 @@
--- A whole run, slot by slot. Assumes nothing.
+-- A whole run, slot by slot: responses, and what stands at its end. Assumes nothing.
 use mathlib.Core.Path.{_≡_, refl, sym, ap, _∙_}
 use mathlib.Core.Logic.{_⊎_, inl, inr}
 use mathlib.Core.Bool.{Bool, true, false, cond}
@@ -32,10 +32,10 @@ use Rattle.slot.specs.declared.event.Event.{Event}
 use Rattle.outcome.specs.declared.Cause.the-variants.{Overlap, Deadline}
 use Rattle.dispatch.specs.declared.Seen.{Seen}
 use native.Mathlib.Numerals.{add-one}
-use Rattle.runs.proofs.Invert.{mix, come-to, chosen, stays, round, Clear, Onward, Crossed, Tardy, next-went, late-went}
-use Rattle.runs.proofs.Tasks.{firsts-at, sees-at, sees-only, Crossing, crossing, Staying-job, staying-job}
-use Rattle.runs.proofs.Life.{Closed, Alive, Lives, One, one-slot, none-pending, lives-young, age-as-shown}
-use Rattle.runs.proofs.Steps.{Does-task, does-task}
+use Rattle.runs.proofs.Outcomes.{mix, come-to, chosen, stays, round, Clear, Onward, Crossed, Tardy, next-went, late-went}
+use Rattle.runs.proofs.TaskSlots.{firsts-at, sees-at, sees-only, Crossing, crossing, Staying-job, staying-job}
+use Rattle.runs.proofs.JobLife.{Closed, Alive, Lives, One, one-slot, none-pending, lives-young, age-as-shown}
+use Rattle.runs.proofs.OneSlot.{Does-task, does-task}
 
 pub at-zero : (s : Event) (ss : List Event) (f : ℕ → Event) (n : ℕ) → event-at (s ∷ ss) (n - n) ≡ f n → s ≡ f n
 at-zero s ss f n h = let z : n - n ≡ 0 = omega arith in rw z at h
@@ -47,7 +47,7 @@ module _ (ds : List TaskView) (picks : Picks) (proper : Proper ds) where
   abbrev pub timed-of : (k : ℕ) (d : TaskView) → Is-task ds k d → Timed d
   timed-of k d t = proper .timed (k - 1) d (t .here)
 
-  -- each task stands before slot n as the sights of the slots before it say
+  -- each task stands before slot n as the trace before it shows
   abbrev pub Know : (ℕ → Event) → ℕ → StateView → Type 0
   Know f n m = (k : ℕ) (d : TaskView) (t : Is-task ds k d) → (s : TaskState) × (nth (m .tasks) (k - 1) ≡ Some s) × Lives f k d (timed-of k d t) n (s .job)
 

@@ -1,4 +1,4 @@
--- The law of responses. Assumes nothing.
+-- What one slot does with a task. Assumes nothing.
 use mathlib.Core.Path.{_≡_, refl, sym, ap, _∙_}
 use mathlib.Core.Logic.{_⊎_, inl, inr}
 use mathlib.Core.Bool.{Bool, true, false, cond}
@@ -27,9 +27,9 @@ use Rattle.runs.specs.Response.{Responds, Response-law}
 use Rattle.runs.specs.Run.{arrives, is-picked, response, of-task, Ending, ends-in, ends-late, RunFrom, empty, last-late, way-then, Run, event-at, blank, Timed, Proper, Is-task}
 use Rattle.slot.specs.Slot.{event}
 use Rattle.slot.specs.declared.event.Event.{Event}
-use Rattle.runs.proofs.Invert.{mix, come-to, chosen, stays, over, round, Clear, Onward, Crossed, Tardy, next-went, late-went}
-use Rattle.runs.proofs.Tasks.{Arrived-at, arrived-at, alone-at, serve-all-at, ended-at, timely-at, firsts-at}
-use Rattle.runs.proofs.Life.{Closed, Lives, One, one-slot}
+use Rattle.runs.proofs.Outcomes.{mix, come-to, chosen, stays, over, round, Clear, Onward, Crossed, Tardy, next-went, late-went}
+use Rattle.runs.proofs.TaskSlots.{Arrived-at, arrived-at, alone-at, serve-all-at, ended-at, timely-at, firsts-at}
+use Rattle.runs.proofs.JobLife.{Closed, Lives, One, one-slot}
 
 module _ (ds : List TaskView) (picks : Picks) (k : ℕ) (d : TaskView) (task : Is-task ds k d) where
   -- what a slot with no overlap does with the task

@@ -30,11 +30,11 @@ use Rattle.runs.specs.Run.{arrives, is-picked, response, Ending, ends-in, ends
 use Rattle.runs.specs.Work.{Obeyed, Follows, Choice-law, Work-bounds, Work-law}
 use Rattle.slot.specs.Slot.{event}
 use Rattle.slot.specs.declared.event.Event.{Event}
-use Rattle.runs.proofs.Invert.{come-to, chosen, stays, over, round, Clear, Onward, Crossed, Tardy, next-went, late-went}
-use Rattle.runs.proofs.Tasks.{choose-at}
-use Rattle.runs.proofs.Life.{Lives, Mid, mid-of, executed-on, age-as-shown}
-use Rattle.runs.proofs.Whole.{at-zero, at-suc, timed-of, Know, did, clear-know, know-first, At, slot-of}
-use Rattle.runs.proofs.Arrive.{Obeys, Built, built, first-at}
+use Rattle.runs.proofs.Outcomes.{come-to, chosen, stays, over, round, Clear, Onward, Crossed, Tardy, next-went, late-went}
+use Rattle.runs.proofs.TaskSlots.{choose-at}
+use Rattle.runs.proofs.JobLife.{Lives, Mid, mid-of, executed-on, age-as-shown}
+use Rattle.runs.proofs.Response.{at-zero, at-suc, timed-of, Know, did, clear-know, know-first, At, slot-of}
+use Rattle.runs.proofs.Arrivals.{Obeys, Built, built, first-at}
 
 -- a job that may choose does as it is told
 choosing : (stay : Bool) (d : TaskView) (p : ℕ) (j : Job) → d .best ≤ j .work + 1 → j .work + 1 < d .worst →

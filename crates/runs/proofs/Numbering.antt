@@ -33,11 +33,11 @@ use Rattle.runs.specs.Response.{executed}
 use Rattle.runs.specs.Run.{arrives, is-picked, Ending, ends-in, ends-late, Run, event-at, blank, Timed, Proper, Is-task}
 use Rattle.slot.specs.Slot.{event}
 use Rattle.slot.specs.declared.event.Event.{Event}
-use Rattle.runs.proofs.Invert.{mix, come-to, chosen, stays, over, round, Clear, Crossed, next-went, late-went, not-void, not-void-stay, stay-pending, none-beyond}
-use Rattle.runs.proofs.Tasks.{choose-at, choose-all, Chooser, chooser}
-use Rattle.runs.proofs.Life.{Lives, Mid, mid-of, executed-on, age-as-shown}
-use Rattle.runs.proofs.Whole.{timed-of, Know, did, follow, know-first}
-use Rattle.runs.proofs.Wishing.{Told-job, told-job}
+use Rattle.runs.proofs.Outcomes.{mix, come-to, chosen, stays, over, round, Clear, Crossed, next-went, late-went, not-void, not-void-stay, stay-pending, none-beyond}
+use Rattle.runs.proofs.TaskSlots.{choose-at, choose-all, Chooser, chooser}
+use Rattle.runs.proofs.JobLife.{Lives, Mid, mid-of, executed-on, age-as-shown}
+use Rattle.runs.proofs.Response.{timed-of, Know, did, follow, know-first}
+use Rattle.runs.proofs.Work.{Told-job, told-job}
 
 -- a job that may choose
 record May (picked : Bool) (d : TaskView) (o : Option Job) : Type 0 where

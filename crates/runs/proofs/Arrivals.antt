@@ -32,9 +32,9 @@ use Rattle.runs.specs.Run.{arrives, Ending, ends-in, ends-late, RunFrom, empty
 use Rattle.runs.specs.Work.{Is-late, Chosen}
 use Rattle.slot.specs.Slot.{event}
 use Rattle.slot.specs.declared.event.Event.{Event}
-use Rattle.runs.proofs.Invert.{mix, come-to, chosen, stays, over, round, Onward, next-went, event-arrivals, not-void, not-void-stay}
-use Rattle.runs.proofs.Mixed.{mixed, Fits, mixed-lt, Mixed-at, mixed-at}
-use Rattle.runs.proofs.Tasks.{arrived-at, serve-all-at, firsts-at, choose-all}
+use Rattle.runs.proofs.Outcomes.{mix, come-to, chosen, stays, over, round, Onward, next-went, event-arrivals, not-void, not-void-stay}
+use Rattle.runs.proofs.MixedNumbers.{mixed, Fits, mixed-lt, Mixed-at, mixed-at}
+use Rattle.runs.proofs.TaskSlots.{arrived-at, serve-all-at, firsts-at, choose-all}
 use lib.Arith.{digits-div, digits-mod}
 
 position-kept : (picked stay : Bool) (d : TaskView) (p : ℕ) (o : Option Job) → serve-job picked stay d p o .state .position ≡ p
@@ -185,14 +185,14 @@ module _ (ds : List TaskView) (picks : Picks) where
     whole-is : (k : ℕ) (d : TaskView) → Is-task ds k d → choice k ≡ hd (choice k) ∷ tl (choice k)
     whole-is k d t = cons-is (choice k) n (ready k d t .3)
 
-    -- at the standing of the task
+    -- at the state of the task
     runs-on : (k : ℕ) (d : TaskView) → Is-task ds k d → (s : TaskState) → nth (m .tasks) (k - 1) ≡ Some s →
         IsRun (d .stream) (s .position) (hd (choice k) ∷ tl (choice k))
     runs-on k d t s hs =
         let r = ready k d t in
         let e : r .0 ≡ s = same (r .0) s (sym (r .1) ∙ hs) in
-        let r2 : IsRun (d .stream) (r .0 .position) (hd (choice k) ∷ tl (choice k)) = rw (whole-is k d t) at (r .2) in
-        rw e at r2
+        let r″ : IsRun (d .stream) (r .0 .position) (hd (choice k) ∷ tl (choice k)) = rw (whole-is k d t) at (r .2) in
+        rw e at r″
       where
         same : (a b : TaskState) → Some a ≡ Some b → a ≡ b
         same a b h = cc
