@@ -7,3 +7,5 @@ mod plan_examples;
 mod refusal_examples;
 #[cfg(test)]
 mod stream_examples;
+#[cfg(test)]
+mod table_examples;

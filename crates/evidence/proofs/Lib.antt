@@ -1,0 +1,4 @@
+pub mod Law
+mod Keeping
+mod Opening
+mod Written
