@@ -1,4 +1,6 @@
 // Dispatch rules: which task runs in a slot.
+#![tactic(auto)]
+
 ghost use Rattle.std.specs.Prelude.{◌≡◌};
 ghost use Rattle.dispatch.specs.Picks.{Picks, WorkConserving};
 

@@ -1,6 +1,9 @@
 // Reading files of a limited size into a place.
+#![tactic(auto)]
+
 ghost use Rattle.std.specs.Prelude.{◌≤◌, length, IfOk};
 
+use anyhow::anyhow;
 use std::fs::File;
 use std::io;
 use std::io::{ErrorKind, Read};
@@ -21,25 +24,17 @@ fn fill(file: &mut File, place: &mut [u8]) -> io::Result<usize>
 }
 
 // An error with the name of its file.
-fn named(rt: &HostRuntime, path: &str, error: io::Error) -> anyhow::Error {
-    match format!(in rt.alloc(); "{path}: {error}") {
-        Ok(text) => text.into(),
-        Err(none) => none.into(),
-    }
+fn named(path: &str, error: io::Error) -> anyhow::Error {
+    anyhow!("{path}: {error}")
 }
 
 // The first bytes of an open file, as many as there are or the place holds.
-fn read_open(
-    rt: &HostRuntime,
-    path: &str,
-    mut file: File,
-    place: &mut [u8],
-) -> anyhow::Result<usize>
+fn read_open(path: &str, mut file: File, place: &mut [u8]) -> anyhow::Result<usize>
     ensures { IfOk result (λ n. n ≤ length place.old) }
 {
     match fill(&mut file, place) {
         Ok(n) => Ok(n),
-        Err(error) => Err(named(rt, path, error)),
+        Err(error) => Err(named(path, error)),
     }
 }
 
@@ -48,8 +43,8 @@ pub fn read(rt: &HostRuntime, path: &str, place: &mut [u8]) -> anyhow::Result<us
     ensures { IfOk result (λ n. n ≤ length place.old) }
 {
     match File::open(rt, path) {
-        Ok(file) => read_open(rt, path, file, place),
-        Err(error) => Err(named(rt, path, error)),
+        Ok(file) => read_open(path, file, place),
+        Err(error) => Err(named(path, error)),
     }
 }
 
@@ -58,12 +53,12 @@ pub fn read_if_present(rt: &HostRuntime, path: &str, place: &mut [u8]) -> anyhow
     ensures { IfOk result (λ n. n ≤ length place.old) }
 {
     match File::open(rt, path) {
-        Ok(file) => read_open(rt, path, file, place),
+        Ok(file) => read_open(path, file, place),
         Err(error) => {
             if error.kind() == ErrorKind::NotFound {
                 Ok(0)
             } else {
-                Err(named(rt, path, error))
+                Err(named(path, error))
             }
         }
     }

@@ -1,4 +1,6 @@
 // The listing of a plan: its response windows, as text.
+#![tactic(auto)]
+
 pub mod export;
 mod finish;
 mod lines;

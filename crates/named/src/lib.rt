@@ -1,4 +1,6 @@
 // Plans with a name, and what is shown of them by computation.
+#![tactic(auto)]
+
 ghost use Rattle.named.specs.Named.{NamedPlans};
 ghost use Rattle.named.specs.Evidence.{EvidenceExists, HistoryExists};
 

@@ -1,4 +1,6 @@
 // A second scheduler, over the history of arrivals, and tests that compare the library with it.
+#![tactic(auto)]
+
 #[cfg(test)]
 mod compare;
 #[cfg(test)]

@@ -1,4 +1,6 @@
 // The refusals: why a call was refused, and where.
+#![tactic(auto)]
+
 ghost use Rattle.std.specs.Prelude.{◌≡◌, Some};
 ghost use Rattle.refusals.specs.Refusals.{number_of, meaning_of, OneToOne, text_of};
 

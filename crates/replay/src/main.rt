@@ -1,4 +1,6 @@
 // Replays a plan along a list of ways, and prints slot by slot what it shows.
+#![tactic(auto)]
+
 mod text;
 mod ways;
 

@@ -1,4 +1,6 @@
 // The dispatch rules that a user can name, as one rule.
+#![tactic(auto)]
+
 ghost use Rattle.std.specs.Prelude.{◌≡◌, MatchOption, ◌≢◌};
 ghost use Rattle.rules.specs.Named.{picks_of, name_of};
 ghost use Rattle.dispatch.specs.Picks.{by_priority, by_age, waited};

@@ -1,4 +1,6 @@
 // Runs of a plan: replaying a list of ways, and the laws over whole runs.
+#![tactic(auto)]
+
 ghost use Rattle.plans.specs.Tasks.{task_views};
 ghost use Rattle.runs.specs.Laws.{RunLaws};
 ghost use Rattle.runs.specs.Replay.{Replays};

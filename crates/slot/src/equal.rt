@@ -1,28 +1,35 @@
 // Equality of states: exact.
 ghost use Rattle.std.specs.Prelude.{◌≡◌, Decides};
 ghost use Rattle.slot.specs.Slot.{state_view};
+ghost use Rattle.slot.specs.Equal.{equal_tasks, equal_states};
 ghost use Rattle.std.specs.Cmp.Rules.{comparing};
-ghost use Rattle.std.proofs.Common.{rules, arith};
+ghost use Rattle.std.proofs.Common.{rules};
 
 use crate::state::{State, TaskState};
 
 impl PartialEq for TaskState {
-    ghost equals = { λ x y r. Decides r (x ≡ y) };
+    ghost eq = { equal_tasks };
 
     ghost laws = { Prim.search (comparing, rules) };
 
-    fn eq(&self, other: &TaskState) -> bool {
+    fn eq(&self, other: &TaskState) -> bool
+        ensures value { result ≡ equal_tasks self.now other.now }
+        ensures exact { Decides result (self.now ≡ other.now) }
+    {
         self.position == other.position && self.job == other.job
     }
 }
 
 // Two states are equal if every position, job and the last runner are.
 impl PartialEq for State {
-    ghost equals = { λ x y r. Decides r (state_view x ≡ state_view y) };
+    ghost eq = { equal_states };
 
-    ghost laws = { first_of (Prim.search (comparing, rules), Prim.grind (arith, Self.row.coded.inj)) };
+    ghost laws = { Prim.search (comparing, rules) };
 
-    fn eq(&self, other: &State) -> bool {
+    fn eq(&self, other: &State) -> bool
+        ensures value { result ≡ equal_states self.now other.now }
+        ensures exact { Decides result (state_view self.now ≡ state_view other.now) }
+    {
         self.last == other.last && self.tasks == other.tasks
     }
 }

@@ -1,4 +1,6 @@
 // Prints the listing of plan.bin and evidence.bin in the working folder.
+#![tactic(auto)]
+
 use anyhow::anyhow;
 use files::read_if_present;
 use listing::list::listing;

@@ -1,4 +1,6 @@
 // Worked examples, each a test.
+#![tactic(auto)]
+
 #[cfg(test)]
 mod dispatch_examples;
 #[cfg(test)]

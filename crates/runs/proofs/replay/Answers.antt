@@ -26,7 +26,7 @@ loop-i-preserved g c =
     let within : i < length ws = omega (arith, c.min-most.ensures, min-le_left (length ws) (length c.args.trace.now)) in
     let room : i < length c.loop-i.trace = omega (arith, c.min-most.ensures, min-le_right (length ws) (length c.args.trace.now)) in (
       replay_next ts picks (start_state ts) ws c.loop-i.trace i (state_view c.loop-i.state) c.observe-event.result within room c.loop-i.invariant.0 c.observe-event.ensures
-          (state_view c.in-Next.after) c.in-Next.-ended (sym c.in-Next.ensures),
+          (state_view c.in-Next.after) c.in-Next._ended (sym c.in-Next.ensures),
       rest_more c.args.trace.now c.loop-i.trace i c.observe-event.result room (omega arith) c.loop-i.invariant.1,
     )
 
@@ -60,7 +60,7 @@ returns-in-Late g c =
         within_trace = simp length-set (omega arith);
         rest = rest_more c.args.trace.now c.loop-i.trace i c.observe-event.result room (omega arith) c.loop-i.invariant.1;
         stop = replay_late ts picks (start_state ts) ws c.loop-i.trace i (state_view c.loop-i.state) c.observe-event.result within room c.loop-i.invariant.0 c.observe-event.ensures
-            c.in-Late.task c.in-Late.cause c.in-Late.-ended (sym c.in-Late.ensures);
+            c.in-Late.task c.in-Late.cause c.in-Late._ended (sym c.in-Late.ensures);
       };
       laws = laws_stand ts picks (proper_plan _ g.met.S.Stream.sound c.args.plan.now.tasks c.args.plan.now.whole);
     }

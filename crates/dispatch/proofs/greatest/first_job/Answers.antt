@@ -4,7 +4,7 @@ use Rattle.dispatch.specs.declared.Seen.{Seen}
 use Rattle.dispatch.specs.Picks.{Best, better, best, greatest}
 use Rattle.dispatch.proofs.Foremost.{greatest_first}
 use Rattle.dispatch.proofs.greatest.first_job.Goals as goal
-use Rattle.dispatch.proofs.greatest.first_job.Goals.{then-takes-over, else-takes-over}
+use Rattle.dispatch.proofs.greatest.first_job.Goals.{then-takes_over, else-takes_over}
 
 abbrev nobody : Seen
 nobody = record { priority = 0; age = None }
@@ -16,11 +16,11 @@ loop-i-preserved g c =
     let x : Seen = get_or xs i nobody in
     let key = g.K.Keyed.key c.args.rule.now in
     let b : Best = record { task = c.loop-i.task; rank = c.loop-i.rank } in
-    let new : Best = record { task = c.if-takes-over.task; rank = c.if-takes-over.rank } in
+    let new : Best = record { task = c.if-takes_over.task; rank = c.if-takes_over.rank } in
     let went : new ≡ better key (i + 1) x b =
-    elim c.if-takes-over.branch [
-      | then-takes-over w ↦ let y = rw c.key-of-mine.ensures at (sym c.takes-over.ensures ∙ w.if-takes-over.true) in rw (w.task-is, w.rank-is, c.key-of-mine.ensures, y) refl
-      | else-takes-over w ↦ let y = rw c.key-of-mine.ensures at (sym c.takes-over.ensures ∙ w.if-takes-over.false) in rw (w.task-is, w.rank-is, y) refl
+    elim c.if-takes_over.branch [
+      | then-takes_over w ↦ let y = rw c.key_of-mine.ensures at (sym c.takes_over.ensures ∙ w.if-takes_over.true) in rw (w.task-is, w.rank-is, c.key_of-mine.ensures, y) refl
+      | else-takes_over w ↦ let y = rw c.key_of-mine.ensures at (sym c.takes_over.ensures ∙ w.if-takes_over.false) in rw (w.task-is, w.rank-is, y) refl
     ] in
     let more : (best key (i + 1) (drop i xs) b).task ≡ (best key (i + 1 + 1) (drop (i + 1) xs) (better key (i + 1) x b)).task =
     at_drop_more (λ ts. (best key (i + 1) ts b).task) xs i nobody c.loop-i-test.true in

@@ -14,5 +14,5 @@ returns-then-last-eq0 c =
 
 pub returns : goal.returns
 returns c =
-    c.is-some.ensures
+    c.is_some.ensures
     ∙ sym (has_job_at c.args.tasks.now c.args.last (omega arith) ∙ job_read c.args.tasks.now (c.args.last - 1) _ (omega arith))

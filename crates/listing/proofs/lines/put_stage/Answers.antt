@@ -12,34 +12,34 @@ none_late Walking h = refl
 none_late Complete h = refl
 none_late (Late i w k c) h = absurd (h i w k c refl)
 
-pub put-number-at-requires : goal.put-number-at-requires
-put-number-at-requires c = omega (arith, short_16 c.args.held (omega arith))
+pub put_number-at-requires : goal.put_number-at-requires
+put_number-at-requires c = omega (arith, short_16 c.args.held (omega arith))
 
-pub put-number-requires : goal.put-number-requires
-put-number-requires c = omega (arith, short_16 c.args.held (omega arith), short_64 c.args.walked (omega arith))
+pub put_number-requires : goal.put_number-requires
+put_number-requires c = omega (arith, short_16 c.args.held (omega arith), short_64 c.args.walked (omega arith))
 
-pub returns-in-default : goal.returns-in-default
-returns-in-default c =
+pub returns-in_default : goal.returns-in_default
+returns-in_default c =
     let h = short_16 c.args.held (omega arith) in
     let w = short_64 c.args.walked (omega arith) in
     record {
       put =
-          rw (none_late c.args.stage c.in-default.not-Late)
-          (field_put (stage_field c.args.stage) 32 _ c.args.at c.put-word-at.result c.put-number.result c.args.place.now c.put-word-at.new.place c.put-number.new.place (omega arith)
-          (rw c.name.ensures.value at c.put-word-at.ensures.put)
-          (field_put (decimal c.args.held) 32 (decimal c.args.walked ++ (10 ∷ [])) c.put-word-at.result c.put-number-at.result c.put-number.result c.put-word-at.new.place c.put-number-at.new.place c.put-number.new.place (omega arith) c.put-number-at.ensures.put c.put-number.ensures.put));
+          rw (none_late c.args.stage c.in_default.not-Late)
+          (field_put (stage_field c.args.stage) 32 _ c.args.at c.put_word-at.result c.put_number.result c.args.place.now c.put_word-at.new.place c.put_number.new.place (omega arith)
+          (rw c.name.ensures.value at c.put_word-at.ensures.put)
+          (field_put (decimal c.args.held) 32 (decimal c.args.walked ++ (10 ∷ [])) c.put_word-at.result c.put_number-at.result c.put_number.result c.put_word-at.new.place c.put_number-at.new.place c.put_number.new.place (omega arith) c.put_number-at.ensures.put c.put_number.ensures.put));
       within = omega arith;
     }
 
-pub put-number-at-requires-2 : goal.put-number-at-requires-2
-put-number-at-requires-2 c = omega (arith, short_16 c.args.held (omega arith), short_64 c.args.walked (omega arith))
+pub put_number-at-requires-2 : goal.put_number-at-requires-2
+put_number-at-requires-2 c = omega (arith, short_16 c.args.held (omega arith), short_64 c.args.walked (omega arith))
 
-pub put-number-at-requires-3 : goal.put-number-at-requires-3
-put-number-at-requires-3 c =
+pub put_number-at-requires-3 : goal.put_number-at-requires-3
+put_number-at-requires-3 c =
     omega (arith, short_16 c.args.held (omega arith), short_64 c.args.walked (omega arith), short_8 c.in-Late.task (omega arith))
 
-pub put-word-requires : goal.put-word-requires
-put-word-requires c =
+pub put_word-requires : goal.put_word-requires
+put_word-requires c =
     omega (arith, short_16 c.args.held (omega arith), short_64 c.args.walked (omega arith), short_8 c.in-Late.task (omega arith))
 
 pub returns : goal.returns
@@ -50,10 +50,10 @@ returns c =
     record {
       put =
           rw (c.in-Late.is, ← c.letter.ensures)
-          (field_put (codes "late") 32 _ c.args.at c.put-word-at.result c.put-word.result c.args.place.now c.put-word-at.new.place c.put-word.new.place (omega arith)
-          (rw (c.name.ensures.value, c.in-Late.is) at c.put-word-at.ensures.put)
-          (field_put (decimal c.args.held) 32 _ c.put-word-at.result c.put-number-at.result c.put-word.result c.put-word-at.new.place c.put-number-at.new.place c.put-word.new.place (omega arith) c.put-number-at.ensures.put
-          (field_put (decimal c.args.walked) 32 _ c.put-number-at.result c.put-number-at-2.result c.put-word.result c.put-number-at.new.place c.put-number-at-2.new.place c.put-word.new.place (omega arith) c.put-number-at-2.ensures.put
-          (field_put (decimal c.in-Late.task) 32 (c.letter.result ∷ 10 ∷ []) c.put-number-at-2.result c.put-number-at-3.result c.put-word.result c.put-number-at-2.new.place c.put-number-at-3.new.place c.put-word.new.place (omega arith) c.put-number-at-3.ensures.put c.put-word.ensures.put))));
+          (field_put (codes "late") 32 _ c.args.at c.put_word-at.result c.put_word.result c.args.place.now c.put_word-at.new.place c.put_word.new.place (omega arith)
+          (rw (c.name.ensures.value, c.in-Late.is) at c.put_word-at.ensures.put)
+          (field_put (decimal c.args.held) 32 _ c.put_word-at.result c.put_number-at.result c.put_word.result c.put_word-at.new.place c.put_number-at.new.place c.put_word.new.place (omega arith) c.put_number-at.ensures.put
+          (field_put (decimal c.args.walked) 32 _ c.put_number-at.result c.put_number-at-2.result c.put_word.result c.put_number-at.new.place c.put_number-at-2.new.place c.put_word.new.place (omega arith) c.put_number-at-2.ensures.put
+          (field_put (decimal c.in-Late.task) 32 (c.letter.result ∷ 10 ∷ []) c.put_number-at-2.result c.put_number-at-3.result c.put_word.result c.put_number-at-2.new.place c.put_number-at-3.new.place c.put_word.new.place (omega arith) c.put_number-at-3.ensures.put c.put_word.ensures.put))));
       within = omega arith;
     }

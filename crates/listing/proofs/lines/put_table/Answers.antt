@@ -10,9 +10,9 @@ pub returns : goal.returns
 returns c =
     let n : Numbers = c.numbers-numbers.result in
     let both =
-    then_put (task_lines (times_of n.times) n.tasks) (stage_line n.stage n.held n.walked) 0 c.put-tasks-at.result c.put-stage.result c.args.place.now c.put-tasks-at.new.place c.put-stage.new.place
-    (omega (arith, c.put-tasks-at.ensures.put.ends)) c.put-tasks-at.ensures.put c.put-stage.ensures.put in
+    then_put (task_lines (times_of n.times) n.tasks) (stage_line n.stage n.held n.walked) 0 c.put_tasks-at.result c.put_stage.result c.args.place.now c.put_tasks-at.new.place c.put_stage.new.place
+    (omega (arith, c.put_tasks-at.ensures.put.ends)) c.put_tasks-at.ensures.put c.put_stage.ensures.put in
     record {
-      put = subst (λ (m : Numbers). Put (table_lines (table_of m)) 0 c.put-stage.result c.args.place.now c.put-stage.new.place) c.numbers-numbers.ensures both;
+      put = subst (λ (m : Numbers). Put (table_lines (table_of m)) 0 c.put_stage.result c.args.place.now c.put_stage.new.place) c.numbers-numbers.ensures both;
       within = omega arith;
     }

@@ -14,8 +14,8 @@ returns-in-Ok g c =
     let o = c.in-Ok.ensures in
     record {
       put = lined state_view picks ts c.args.evidence.now c.in-Ok.opened.numbers c.finish-halt.new.table.numbers c.open.new.rows c.finish-halt.new.rows c.finish-halt.result
-          c.put-table-at.result c.put-ending-in-Ok.result c.args.place.now c.put-table-at.new.place c.put-ending-in-Ok.new.place (omega arith)
-          o.does c.finish-halt.ensures.brings c.put-table-at.ensures.put c.put-ending-in-Ok.ensures.put;
+          c.put_table-at.result c.put_ending-in-Ok.result c.args.place.now c.put_table-at.new.place c.put_ending-in-Ok.new.place (omega arith)
+          o.does c.finish-halt.ensures.brings c.put_table-at.ensures.put c.put_ending-in-Ok.ensures.put;
       within = omega arith;
       law = rests state_view picks ts c.args.evidence.now c.in-Ok.opened.numbers c.finish-halt.new.table.numbers c.open.new.rows c.finish-halt.new.rows c.finish-halt.result
           (laws_stand ts picks proper).response o.does o.kept o.law c.finish-halt.ensures.brings c.finish-halt.ensures.ended;

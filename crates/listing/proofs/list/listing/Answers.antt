@@ -9,7 +9,7 @@ pub returns-in-Ok : goal.returns-in-Ok
 returns-in-Ok c =
     record {
       value =
-          listed by_priority 256 c.args.plan.now c.args.evidence.now (task_views kind_meaning c.in-Ok.plan.tasks) c.list-schedule.result c.args.place.now c.list-schedule.new.place
-          (omega arith) c.in-Ok.ensures c.list-schedule.ensures.put c.list-schedule.ensures.law;
+          listed by_priority 256 c.args.plan.now c.args.evidence.now (task_views kind_meaning c.in-Ok.plan.tasks) c.list_schedule.result c.args.place.now c.list_schedule.new.place
+          (omega arith) c.in-Ok.ensures c.list_schedule.ensures.put c.list_schedule.ensures.law;
       short = omega arith;
     }

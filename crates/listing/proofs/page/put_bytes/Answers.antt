@@ -10,6 +10,6 @@ returns c =
     record {
       ends = refl;
       place =
-          ap (λ (zs : List ℕ). take at xs ++ (c.copy-from-slice.new.self ++ zs)) (Post-is at (at + length bs) xs (omega arith))
-          ∙ ap (λ (ys : List ℕ). take at xs ++ (ys ++ drop (at + length bs) xs)) c.copy-from-slice.ensures.after;
+          ap (λ (zs : List ℕ). take at xs ++ (c.copy_from_slice.new.self ++ zs)) (Post-is at (at + length bs) xs (omega arith))
+          ∙ ap (λ (ys : List ℕ). take at xs ++ (ys ++ drop (at + length bs) xs)) c.copy_from_slice.ensures.after;
     }

@@ -43,7 +43,7 @@ loop-i-preserved g c =
       arrived_more (task_views m (drop i xs)) (task_views m (drop (i + 1) xs)) ss i a (task_view m t) nothing ds (omega arith)
           r.state r.left state_is left_is ∙ c.loop-i.invariant.4,
       overlap_more (task_views m (drop i xs)) (task_views m (drop (i + 1) xs)) ss i a (task_view m t) nothing ds (omega arith)
-          (i + 1) c.loop-i.overlap c.first-of-overlap.result r.left r.state c.overlap-in.result (omega arith) (c.overlap-in.ensures ∙ ap overlaps release_is) left_is c.first-of-overlap.ensures
+          (i + 1) c.loop-i.overlap c.first_of-overlap.result r.left r.state c.overlap_in.result (omega arith) (c.overlap_in.ensures ∙ ap overlaps release_is) left_is c.first_of-overlap.ensures
           ∙ c.loop-i.invariant.5,
     )
 
@@ -59,12 +59,12 @@ returns-after-loop-i g c =
       overlap = done_overlap _ c.loop-i.tasks (c.loop-i.i + 1) c.loop-i.left c.loop-i.i c.loop-i.overlap _ e c.loop-i.invariant.5;
     }
 
-pub returns-in-default : goal.returns-in-default
-returns-in-default g c =
+pub returns-in_default : goal.returns-in_default
+returns-in_default g c =
     let m = g.S.Stream.meaning in
     let xs = c.args.plan.now.tasks in
     let k : length xs ≡ 8 = c.args.plan.now.whole in
-    let e = task_views_end m xs c.loop-i.i c.index-plan-i.result (omega arith) c.in-default.is in
+    let e = task_views_end m xs c.loop-i.i c.index-plan-i.result (omega arith) c.in_default.is in
     record {
       arrivals = done_flags _ c.loop-i.tasks c.loop-i.arrivals _ c.loop-i.i c.loop-i.left e c.loop-i.invariant.2 c.loop-i.invariant.3;
       tasks = done_tasks _ c.loop-i.tasks _ c.loop-i.i c.loop-i.left e c.loop-i.invariant.4;

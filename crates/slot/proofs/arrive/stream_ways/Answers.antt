@@ -8,8 +8,8 @@ use Rattle.plans.proofs.Views.{task_views_more, task_views_end}
 use Rattle.slot.proofs.Lists.{choices_more, four_pow, four_all}
 use Rattle.slot.proofs.arrive.stream_ways.Goals as goal
 
-pub overflow-mul-all : goal.overflow-mul-all
-overflow-mul-all g c =
+pub overflow_mul-all : goal.overflow_mul-all
+overflow_mul-all g c =
     let few : c.ways.result ≤ 4 = c.ways.ensures.few in
     Fits-below tt (four_pow c.loop-i.i c.loop-i.all c.ways.result c.loop-i-test.true c.loop-i.invariant.0 few)
 
@@ -40,12 +40,12 @@ returns-after-loop-i g c =
     let h = rw e at f in
     record { value = sym (mul-one _) ∙ h; some = c.loop-i.invariant.1; few = four_all c.loop-i.i c.loop-i.all (omega arith) c.loop-i.invariant.0 }
 
-pub returns-in-default : goal.returns-in-default
-returns-in-default g c =
+pub returns-in_default : goal.returns-in_default
+returns-in_default g c =
     let m = g.S.Stream.meaning in
     let xs = c.args.plan.now.tasks in
     let k : length xs ≡ 8 = c.args.plan.now.whole in
-    let e = task_views_end m xs c.loop-i.i c.index-plan-i.result (omega arith) c.in-default.is in
+    let e = task_views_end m xs c.loop-i.i c.index-plan-i.result (omega arith) c.in_default.is in
     let f = c.loop-i.invariant.2 in
     let h = rw e at f in
     record { value = sym (mul-one _) ∙ h; some = c.loop-i.invariant.1; few = four_all c.loop-i.i c.loop-i.all (omega arith) c.loop-i.invariant.0 }

@@ -7,7 +7,7 @@ use Rattle.plans.proofs.Views.{task_views_more, task_views_end}
 use Rattle.slot.proofs.Lists.{firsts_more, firsts_done}
 use Rattle.slot.proofs.Bounds.{bounded_firsts}
 use Rattle.slot.proofs.start.start.Goals as goal
-use Rattle.slot.proofs.start.start.Goals.{else-loop-i-test, then-loop-i-test+in-default}
+use Rattle.slot.proofs.start.start.Goals.{else-loop-i-test, then-loop-i-test+in_default}
 
 abbrev nothing : TaskState
 nothing = record { position = 0; job = None }
@@ -34,12 +34,12 @@ returns g c =
     let end : task_views m (drop i xs) ≡ [] =
     elim c.loop-i-test.branch [
       | else-loop-i-test w ↦ ap (task_views m) (drop_all i xs (omega (arith, w.loop-i-test.false)))
-      | then-loop-i-test+in-default w ↦ task_views_end m xs i w.index-plan-i.result (omega (arith, w.loop-i-test.true)) w.in-default.is
+      | then-loop-i-test+in_default w ↦ task_views_end m xs i w.index-plan-i.result (omega (arith, w.loop-i-test.true)) w.in_default.is
     ] in
     ap (λ ts. record { tasks = ts; last = 0 }) (firsts_done _ c.loop-i.tasks _ i end c.loop-i.invariant.1)
 
-pub invariant-of-result : goal.invariant-of-result
-invariant-of-result g c =
+pub invariant_of-result : goal.invariant_of-result
+invariant_of-result g c =
     let m = g.S.Stream.meaning in
     let xs = c.args.plan.now.tasks in
     let i = c.loop-i.i in
@@ -47,7 +47,7 @@ invariant-of-result g c =
     let end : task_views m (drop i xs) ≡ [] =
     elim c.loop-i-test.branch [
       | else-loop-i-test w ↦ ap (task_views m) (drop_all i xs (omega (arith, w.loop-i-test.false)))
-      | then-loop-i-test+in-default w ↦ task_views_end m xs i w.index-plan-i.result (omega (arith, w.loop-i-test.true)) w.in-default.is
+      | then-loop-i-test+in_default w ↦ task_views_end m xs i w.index-plan-i.result (omega (arith, w.loop-i-test.true)) w.in_default.is
     ] in
     let is : c.loop-i.tasks ≡ (start_state (task_views m xs)).tasks = firsts_done _ c.loop-i.tasks _ i end c.loop-i.invariant.1 in
     (c.loop-i.invariant.0, (rw is (bounded_firsts (task_views m xs) (replicate 8 nothing) refl), tt))

@@ -14,7 +14,7 @@ returns g c =
     let picks : Picks = g.D.Dispatch.picks c.args.rule.now in
     let m : StateView = state_view c.args.state.now in
     let n : ℕ = c.args.way % choices ts m.tasks in
-    let part : c.args.way % c.stream-ways.result ≡ n = ap (λ x. c.args.way % x) c.stream-ways.ensures.value in
+    let part : c.args.way % c.stream_ways.result ≡ n = ap (λ x. c.args.way % x) c.stream_ways.ensures.value in
     let arrivals : c.arrive-came.result.arrivals ≡ arrivals_in ts m.tasks n = c.arrive-came.ensures.arrivals ∙ ap (arrivals_in ts m.tasks) part in
     let tasks : c.arrive-came.result.tasks ≡ arrived ts m.tasks n = c.arrive-came.ensures.tasks ∙ ap (arrived ts m.tasks) part in
     let over : c.arrive-came.result.overlap ≡ overlapping 1 ts m.tasks n = c.arrive-came.ensures.overlap ∙ ap (overlapping 1 ts m.tasks) part in
@@ -23,7 +23,7 @@ returns g c =
     elim c.if-came-ne0.branch [
       | then-came-ne0 w ↦ w.picked-is ∙ sym (rw (ne_eqb (overlapping 1 ts m.tasks n) 0 (λ e. w.if-came-ne0.true (over ∙ e))) refl)
       | else-came-ne0 w ↦
-          w.picked-is ∙ w.pick-of-picked.ensures ∙ ap (λ x. picks (sees ts x) m.last) tasks
+          w.picked-is ∙ w.pick_of-picked.ensures ∙ ap (λ x. picks (sees ts x) m.last) tasks
           ∙ sym (rw (eq-eqb (overlapping 1 ts m.tasks n) 0 (sym over ∙ w.if-came-ne0.false)) refl)
     ] in
     λ i. record { arrivals = arrivals i; picked = picked i; ended = ended i }

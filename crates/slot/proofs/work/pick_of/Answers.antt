@@ -7,7 +7,7 @@ use Rattle.plans.proofs.Views.{task_views_more, task_views_end}
 use Rattle.slot.proofs.Few.{picks_few}
 use Rattle.slot.proofs.Rounds.{sees_more, sees_done}
 use Rattle.slot.proofs.work.pick_of.Goals as goal
-use Rattle.slot.proofs.work.pick_of.Goals.{else-loop-i-test, then-loop-i-test+in-default}
+use Rattle.slot.proofs.work.pick_of.Goals.{else-loop-i-test, then-loop-i-test+in_default}
 
 abbrev nothing : TaskState
 nothing = record { position = 0; job = None }
@@ -36,15 +36,15 @@ returns g c =
     let end : task_views m (drop i xs) ≡ [] =
     elim c.loop-i-test.branch [
       | else-loop-i-test w ↦ ap (task_views m) (drop_all i xs (omega (arith, w.loop-i-test.false)))
-      | then-loop-i-test+in-default w ↦ task_views_end m xs i w.index-plan-i.result (omega (arith, w.loop-i-test.true)) w.in-default.is
+      | then-loop-i-test+in_default w ↦ task_views_end m xs i w.index-plan-i.result (omega (arith, w.loop-i-test.true)) w.in_default.is
     ] in
     let n : c.loop-i.count - 0 ≡ i = omega (arith, c.loop-i.invariant.1) in
     c.pick.ensures
     ∙ ap (λ ts. g.D.Dispatch.picks c.args.rule.now ts c.args.last)
     (ap (λ x. take x c.loop-i.seen) n ∙ sees_done _ c.args.tasks.now c.loop-i.seen _ i end c.loop-i.invariant.2)
 
-pub overflow-cast-result : goal.overflow-cast-result
-overflow-cast-result g c =
+pub overflow_cast-result : goal.overflow_cast-result
+overflow_cast-result g c =
     let h = picks_few (g.D.Dispatch.picks c.args.rule.now) (g.met.D.Dispatch.conserves c.args.rule.now) (take (c.loop-i.count - 0) c.loop-i.seen) c.args.last in
     let l = length-take (c.loop-i.count - 0) c.loop-i.seen in
     let n = c.loop-i.invariant.0 in

@@ -30,8 +30,8 @@ loop-i-preserved g c =
     let ds = task_views_more m xs i c.index-plan-i.result c.in-Some.task (omega arith) c.in-Some.is in
     onward_more (task_views m (drop i xs)) (task_views m (drop (i + 1) xs)) c.loop-i.tasks i c.args.pick c.args.stay (task_view m c.in-Some.task) nothing ds
     (omega (arith, c.loop-i.invariant.whole))
-    c.loop-i.ended c.ended-first-ended.result c.loop-i.may-choose c.loop-i.late c.first-of-late.result
-    c.serve-s.result _ c.loop-i.invariant c.serve-s.ensures c.ended-first-ended.ensures c.first-of-late.ensures
+    c.loop-i.ended c.ended_first-ended.result c.loop-i.may_choose c.loop-i.late c.first_of-late.result
+    c.serve-s.result _ c.loop-i.invariant c.serve-s.ensures c.ended_first-ended.ensures c.first_of-late.ensures
 
 pub returns-after-loop-i : goal.returns-after-loop-i
 returns-after-loop-i g c =
@@ -46,12 +46,12 @@ returns-after-loop-i g c =
           rw is (bounded_test _ (bounded_all (task_views m xs) c.args.before.now c.args.pick c.args.stay 1 (sane m xs) (omega arith) c.requires (sym late ∙ z)));
     }
 
-pub returns-in-default : goal.returns-in-default
-returns-in-default g c =
+pub returns-in_default : goal.returns-in_default
+returns-in_default g c =
     let m = g.S.Stream.meaning in
     let xs = c.args.plan.now.tasks in
     let k : length xs ≡ 8 = c.args.plan.now.whole in
-    let e = task_views_end m xs c.loop-i.i c.index-plan-i.result (omega arith) c.in-default.is in
+    let e = task_views_end m xs c.loop-i.i c.index-plan-i.result (omega arith) c.in_default.is in
     let d = onward_done _ c.loop-i.tasks c.loop-i.i (c.loop-i.i + 1) c.args.pick c.args.stay _ _ _ _ e c.loop-i.invariant in
     record {
       value = d;

@@ -7,16 +7,16 @@ use Rattle.windows.proofs.OwnRuns.{same_runs}
 use Rattle.windows.proofs.Answered.{refused_value, told_value, windows_kept, says_kept}
 use Rattle.windows.proofs.read.window.Goals as goal
 
-pub returns-in-err-times : goal.returns-in-err-times
-returns-in-err-times g c =
+pub returns-in_err-times : goal.returns-in_err-times
+returns-in_err-times g c =
     let ts = task_views g.S.Stream.meaning c.args.schedule.now.plan.tasks in
     let picks = g.D.Dispatch.picks c.args.schedule.now.rule in
     let p : Numbers = c.args.table.now.numbers in
     let rows = c.args.rows.now in
     let proper = proper_plan _ g.met.S.Stream.sound c.args.schedule.now.plan.tasks c.args.schedule.now.plan.whole in
     let law = windows_kept ts picks p rows (laws_stand ts picks proper).response c.times.ensures.law in
-    let r = c.from-residual.result in
-    let value = refused_value p c.args.task r _ (err_from_is_err_and r c.from-residual.ensures.1) c.in-err-times.ensures.value in
+    let r = c.from_residual.result in
+    let value = refused_value p c.args.task r _ (err_from_is_err_and r c.from_residual.ensures.1) c.in_err-times.ensures.value in
     record { value = value; says = says_kept ts picks p rows law c.args.task r value; law = law; runs = same_runs ts picks }
 
 pub returns : goal.returns
@@ -27,5 +27,5 @@ returns g c =
     let rows = c.args.rows.now in
     let proper = proper_plan _ g.met.S.Stream.sound c.args.schedule.now.plan.tasks c.args.schedule.now.plan.whole in
     let law = windows_kept ts picks p rows (laws_stand ts picks proper).response c.times.ensures.law in
-    let value = told_value p c.numbers.result c.args.task c.in-ok-times.times c.window_at.result c.window_at.ensures c.numbers.ensures c.in-ok-times.ensures.value in
+    let value = told_value p c.numbers.result c.args.task c.in_ok-times.times c.window_at.result c.window_at.ensures c.numbers.ensures c.in_ok-times.ensures.value in
     record { value = value; says = says_kept ts picks p rows law c.args.task _ value; law = law; runs = same_runs ts picks }

@@ -10,16 +10,16 @@ loop-i-preserved g c =
     let xs = c.args.self.now.tasks in
     let i = c.loop-i.i in
     let k : length xs ≡ 8 = c.args.self.now.whole in
-    let e = ap length (task_views_more m xs i c.index-self-i.result c.in-Some.-task (omega arith) c.in-Some.is) in
+    let e = ap length (task_views_more m xs i c.index-self-i.result c.in-Some._task (omega arith) c.in-Some.is) in
     omega (arith, e, c.loop-i.invariant)
 
-pub returns-in-default : goal.returns-in-default
-returns-in-default g c =
+pub returns-in_default : goal.returns-in_default
+returns-in_default g c =
     let m = g.S.Stream.meaning in
     let xs = c.args.self.now.tasks in
     let i = c.loop-i.i in
     let k : length xs ≡ 8 = c.args.self.now.whole in
-    let e = ap length (task_views_end m xs i c.index-self-i.result (omega arith) c.in-default.is) in
+    let e = ap length (task_views_end m xs i c.index-self-i.result (omega arith) c.in_default.is) in
     record { value = omega (arith, e, c.loop-i.invariant); few = omega arith }
 
 pub returns : goal.returns

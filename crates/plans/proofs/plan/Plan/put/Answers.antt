@@ -3,8 +3,8 @@ use Rattle.plans.specs.Tasks.{task_views}
 use Rattle.plans.proofs.Places.{put}
 use Rattle.plans.proofs.plan.Plan.put.Goals as goal
 
-pub invariant-of-self : goal.invariant-of-self
-invariant-of-self g c =
+pub invariant_of-self : goal.invariant_of-self
+invariant_of-self g c =
     let xs = c.args.self.now.tasks in
     let k : length xs ≡ 8 = c.args.self.now.whole in
     let r = put g.S.Stream.meaning xs c.count-n.result c.args.task (omega arith) c.count-n.ensures.value c.args.self.now.filled in

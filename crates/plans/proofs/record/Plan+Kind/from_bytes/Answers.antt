@@ -13,27 +13,27 @@ pub loop-at-preserved : goal.loop-at-preserved
 loop-at-preserved c =
     let bs : List ℕ = c.args.bytes.now in
     let ts : List TaskView = task_views kind_meaning c.loop-at.plan.tasks in
-    let after : List TaskView = task_views kind_meaning c.add-record.new.self.tasks in
+    let after : List TaskView = task_views kind_meaning c.add_record.new.self.tasks in
     let k : length c.loop-at.plan.tasks ≡ 8 = c.loop-at.plan.whole in
     let few : length ts ≤ 8 = omega (arith, views_few kind_meaning c.loop-at.plan.tasks) in
     let next = record_next bs c.loop-at.at c.min-end.result c.loop-at-test.true c.min-end.ensures ts few in
-    let ok = added_ok _ after c.in-ok-add-record.field-0 _ c.in-ok-add-record.ensures.added in
+    let ok = added_ok _ after c.in_ok-add_record.field-0 _ c.in_ok-add_record.ensures.added in
     let long : 8 - length ts ≡ 9 - length after = omega (arith, one_more ts after _ ok) in (
       omega (arith, c.min-end.ensures, min-le_left (length bs) (c.loop-at.at + 24)),
       sym (ap (λ n. add_records (Ok after) (records n (drop c.min-end.result bs))) long)
           ∙ sym (ap (λ x. add_records x (records (8 - length ts) (drop c.min-end.result bs))) ok) ∙ sym next ∙ c.loop-at.invariant.1,
     )
 
-pub returns-in-err-add-record : goal.returns-in-err-add-record
-returns-in-err-add-record c =
+pub returns-in_err-add_record : goal.returns-in_err-add_record
+returns-in_err-add_record c =
     let bs : List ℕ = c.args.bytes.now in
     let ts : List TaskView = task_views kind_meaning c.loop-at.plan.tasks in
-    let f : Fault = c.in-err-add-record.field-0.0 in
+    let f : Fault = c.in_err-add_record.field-0.0 in
     let k : length c.loop-at.plan.tasks ≡ 8 = c.loop-at.plan.whole in
     let few : length ts ≤ 8 = omega (arith, views_few kind_meaning c.loop-at.plan.tasks) in
     let next = record_next bs c.loop-at.at c.min-end.result c.loop-at-test.true c.min-end.ensures ts few in
-    let err = added_err _ _ f _ c.in-err-add-record.ensures.added in
-    reads_err c.from-residual.result f _ c.from-residual.ensures.0 c.from-residual.ensures.1
+    let err = added_err _ _ f _ c.in_err-add_record.ensures.added in
+    reads_err c.from_residual.result f _ c.from_residual.ensures.0 c.from_residual.ensures.1
     (sym c.loop-at.invariant.1 ∙ next ∙ ap (λ x. add_records x (records (8 - length ts) (drop c.min-end.result bs))) err ∙ refused_stays f (records (8 - length ts) (drop c.min-end.result bs)))
 
 pub returns : goal.returns
