@@ -1,16 +1,14 @@
 // Equality of states: exact.
 ghost use Rattle.std.specs.Prelude.{◌≡◌, Decides};
 ghost use Rattle.slot.specs.Slot.{state_view};
-ghost use Rattle.slot.specs.Equal.{equal_tasks, equal_states};
-ghost use Rattle.std.specs.Cmp.Rules.{comparing};
-ghost use Rattle.std.proofs.Common.{rules};
+ghost use Rattle.slot.specs.Equal.{equal_tasks, tasks_per, equal_states, states_per};
 
 use crate::state::{State, TaskState};
 
 impl PartialEq for TaskState {
     ghost eq = { equal_tasks };
 
-    ghost laws = { Prim.search (comparing, rules) };
+    ghost laws = { tasks_per };
 
     fn eq(&self, other: &TaskState) -> bool
         ensures value { result ≡ equal_tasks self.now other.now }
@@ -24,7 +22,7 @@ impl PartialEq for TaskState {
 impl PartialEq for State {
     ghost eq = { equal_states };
 
-    ghost laws = { Prim.search (comparing, rules) };
+    ghost laws = { states_per };
 
     fn eq(&self, other: &State) -> bool
         ensures value { result ≡ equal_states self.now other.now }

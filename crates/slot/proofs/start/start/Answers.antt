@@ -50,4 +50,4 @@ invariant_of-result g c =
       | then-loop-i-test+in_default w ↦ task_views_end m xs i w.index-plan-i.result (omega (arith, w.loop-i-test.true)) w.in_default.is
     ] in
     let is : c.loop-i.tasks ≡ (start_state (task_views m xs)).tasks = firsts_done _ c.loop-i.tasks _ i end c.loop-i.invariant.1 in
-    (c.loop-i.invariant.0, (rw is (bounded_firsts (task_views m xs) (replicate 8 nothing) refl), tt))
+    record { whole = c.loop-i.invariant.0; limited = rw is (bounded_firsts (task_views m xs) (replicate 8 nothing) refl) }
