@@ -15,7 +15,7 @@ pub loop-i-init : goal.loop-i-init
 loop-i-init g c =
     let ts : List TaskView = task_views g.S.Stream.meaning c.args.plan.now.tasks in
     let r : RunFrom ts (g.D.Dispatch.picks c.args.rule.now) (start_state ts) _ _ (ends_in (start_state ts)) = empty in
-    (rw c.start_state.ensures r, refl)
+    (rw c.start-state.ensures r, refl)
 
 pub loop-i-preserved : goal.loop-i-preserved
 loop-i-preserved g c =
