@@ -1,6 +1,5 @@
 -- The listing of a table that was opened. Assumes nothing.
-use Rattle.std.proofs.Common.{◌≡◌, ℕ, ◌+◌, ◌≤◌, true, false, cond, eqb, List, [], ◌++◌, length, Option, sym, refl, ap, ◌∙◌, subst, arith, ne_eqb}
-use Rattle.refusals.specs.declared.Fault.{Fault}
+use Rattle.std.proofs.Common.{◌≡◌, ℕ, ◌≤◌, false, cond, List, [], ◌++◌, length, Option, ap, ◌∙◌, subst, arith, ne_eqb}
 use Rattle.refusals.specs.declared.Refusal.TheVariants.{PlanEmpty}
 use Rattle.dispatch.specs.Picks.{Picks}
 use Rattle.plans.specs.Tasks.{TaskView}
@@ -10,7 +9,7 @@ use Rattle.exploration.specs.System.{System}
 use Rattle.exploration.specs.Table.{Table, opened, opened_rows}
 use Rattle.table.specs.declared.numbers.Numbers.{Numbers}
 use Rattle.table.specs.View.{table_of, rows_of}
-use Rattle.table.specs.Calls.{Opening, new, none, open_of}
+use Rattle.table.specs.Calls.{new, none, open_of}
 use Rattle.evidence.specs.History.{ByteHistory}
 use Rattle.evidence.specs.Law.{LawOfKeptTables}
 use Rattle.evidence.specs.Keeping.{Kept}
@@ -23,7 +22,7 @@ use Rattle.listing.specs.Put.{Put}
 use Rattle.listing.specs.Lines.{table_lines, halt_lines}
 use Rattle.listing.specs.Finish.{Progress, finished}
 use Rattle.listing.specs.Bringing.{Brings, Ended}
-use Rattle.listing.specs.Listing.{progress_lines, opening_lines, RestsOn, PlanRests}
+use Rattle.listing.specs.Listing.{opening_lines, RestsOn, PlanRests}
 use Rattle.listing.proofs.Puts.{then_put}
 
 module _ {T : Type 0} (view : T → StateView) (picks : Picks) (ts : List TaskView) (evidence : List ℕ) (t q : Numbers) (rows rows' : List (Row T)) (halt : Option Halt) where

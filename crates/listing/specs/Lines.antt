@@ -1,6 +1,5 @@
 -- The lines of a listing.
 use Rattle.std.specs.Prelude.{ℕ, zero, suc, List, [], ◌∷◌, ◌++◌, Some, None, codes, decimal, Option}
-use Rattle.refusals.specs.declared.Fault.{Fault}
 use Rattle.refusals.specs.Refusals.{number_of}
 use Rattle.outcome.specs.Letters.{letter_of}
 use Rattle.exploration.specs.declared.Shown.{Shown}
@@ -8,7 +7,6 @@ use Rattle.exploration.specs.declared.Times.{Times}
 use Rattle.exploration.specs.declared.Stage.{Stage}
 use Rattle.exploration.specs.declared.Stage.TheVariants.{Walking as walking, Complete as complete, Late as late}
 use Rattle.exploration.specs.Table.{Table}
-use Rattle.listing.specs.declared.part.Part.{Part}
 use Rattle.listing.specs.declared.part.Halt.{Halt}
 use Rattle.listing.specs.Parts.{part_letter}
 

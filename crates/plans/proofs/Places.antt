@@ -1,10 +1,9 @@
 -- The places of a plan, filled from the front. Assumes nothing.
-use Rattle.std.proofs.Common.{◌≡◌, ℕ, zero, suc, ◌+◌, ◌<◌, ◌≤◌, Bool, true, false, cond, ltb, List, [], ◌∷◌, ◌++◌, length, get_or, take, drop, set, Some, None, Option, sym, refl, ap, ◌∙◌, append_assoc, add-one, arith, take-append-drop, take-suc-set}
-use Rattle.std.proofs.lemmas.List.{drop_more, drop-set-lt}
+use Rattle.std.proofs.Common.{◌≡◌, ℕ, zero, suc, ◌<◌, true, List, [], ◌∷◌, ◌++◌, length, set, Some, None, Option, refl, ap, arith}
 use Rattle.streams.specs.Meaning.{Meaning}
 use Rattle.plans.specs.declared.plan.Task.{Task}
 use Rattle.plans.specs.Packed.{packed, all_free}
-use Rattle.plans.specs.Tasks.{TaskView, task_view, task_views}
+use Rattle.plans.specs.Tasks.{task_view, task_views}
 
 module _ {S : Type 0} (meaning : S → Meaning) where
   pub free_none : (xs : List (Option (Task S))) → all_free xs ≡ true → task_views meaning xs ≡ []

@@ -1,18 +1,16 @@
 -- The records of a plan, one by one. Assumes nothing.
-use Rattle.std.proofs.Common.{◌≡◌, ℕ, zero, suc, ◌+◌, ◌-◌, ◌<◌, ◌≤◌, min, Bool, true, false, cond, ltb, ◌⊎◌, List, [], ◌∷◌, ◌++◌, length, take, drop, is_err, IsErrAnd, Some, None, Ok, Err, Option, Result, sym, refl, ap, ◌∙◌, inl, inr, arith, length-append, length-drop, take_all, drop-drop}
+use Rattle.std.proofs.Common.{◌≡◌, ℕ, zero, suc, ◌+◌, ◌-◌, ◌<◌, ◌≤◌, min, true, ltb, List, [], ◌∷◌, ◌++◌, length, take, drop, is_err, IsErrAnd, Ok, Err, Result, sym, refl, ap, ◌∙◌, inl, inr, arith, length-append, length-drop, take_all, drop-drop}
 use native.Mathlib.Nat.{min-eq_left, min-eq_right}
 use Rattle.std.proofs.lemmas.Bool.{cases_Bool, cases_lt}
-use Rattle.std.proofs.lemmas.List.{drop_all, drop_more}
+use Rattle.std.proofs.lemmas.List.{drop_all}
 use Rattle.refusals.specs.declared.Fault.{Fault}
-use Rattle.streams.specs.Meaning.{Meaning}
 use Rattle.streams.specs.declared.either.Either.{Either}
 use Rattle.streams.specs.declared.periodic.Periodic.{Periodic}
 use Rattle.streams.specs.declared.sporadic.Sporadic.{Sporadic}
 use Rattle.plans.specs.declared.plan.Plan.{Plan}
-use Rattle.plans.specs.declared.plan.Task.{Task}
-use Rattle.plans.specs.Tasks.{TaskView, task_views}
-use Rattle.plans.specs.Adding.{adding, AddedSo, Added}
-use Rattle.plans.specs.Record.{read_record, records, add_next, add_records, ReadsPlan}
+use Rattle.plans.specs.Tasks.{TaskView}
+use Rattle.plans.specs.Adding.{adding, AddedSo}
+use Rattle.plans.specs.Record.{read_record, records, add_records, ReadsPlan}
 
 -- what was added, by the answer
 pub added_err : (U : Type 0) (after : List TaskView) (f : Fault) (x : Result (List TaskView) Fault) → AddedSo {U = U} after (Err f) x → x ≡ Err f

@@ -3,7 +3,7 @@ use Rattle.std.proofs.Common.{◌≡◌, ℕ, ◌+◌, ◌<◌, ◌≤◌, List,
 use Rattle.std.proofs.lemmas.List.{drop_more}
 use Rattle.streams.specs.Meaning.{Meaning}
 use Rattle.plans.specs.declared.plan.Task.{Task}
-use Rattle.plans.specs.Tasks.{TaskView, task_view, task_views}
+use Rattle.plans.specs.Tasks.{task_view, task_views}
 
 module _ {S : Type 0} (meaning : S → Meaning) where
   -- at a task, the views from i on begin with it

@@ -1,13 +1,10 @@
 -- The arrivals of a run are those of runs of the streams. Assumes nothing.
-use Rattle.std.proofs.Common.{◌≡◌, ℕ, zero, suc, ◌+◌, ◌-◌, ◌*◌, ◌/◌, ◌%◌, ◌<◌, ◌≤◌, Bool, true, false, cond, not, ◌&&◌, eqb, ltb, leb, ◌⊎◌, List, [], ◌∷◌, map, length, get_or, take, replicate, Some, None, Option, sym, refl, ap, ◌∙◌, inl, inr, mod-lt, mod-eq_of_lt, arith, lt-ltb, eq-eqb, eqb-true}
+use Rattle.std.proofs.Common.{◌≡◌, ℕ, zero, suc, ◌+◌, ◌-◌, ◌*◌, ◌/◌, ◌%◌, ◌<◌, Bool, true, false, cond, ◌&&◌, eqb, leb, ◌⊎◌, List, [], ◌∷◌, length, get_or, take, replicate, Some, None, Option, sym, refl, ap, ◌∙◌, inl, inr, mod-lt, mod-eq_of_lt, arith, eq-eqb, eqb-true}
 use native.Mathlib.Nat.{div-eq_of_lt}
 use Rattle.std.specs.List.{slice_get}
 use Rattle.std.proofs.lemmas.Bool.{cases_Bool, cases_eq, and_parts, and_from}
-use Rattle.streams.specs.Meaning.{Meaning, Sound, IsRun, pattern}
-use Rattle.streams.specs.Rule.{Shown}
+use Rattle.streams.specs.Meaning.{Sound, IsRun, pattern}
 use Rattle.dispatch.specs.Picks.{Picks}
-use Rattle.outcome.specs.declared.Cause.{Cause}
-use Rattle.outcome.specs.declared.Cause.TheVariants.{Overlap, Deadline}
 use Rattle.outcome.specs.declared.Ended.{Ended}
 use Rattle.slot.specs.declared.state.Job.{Job}
 use Rattle.slot.specs.declared.state.TaskState.{TaskState}
@@ -15,10 +12,10 @@ use Rattle.slot.specs.Arrivals.{choices, arrived, overlapping}
 use Rattle.plans.specs.Tasks.{TaskView}
 use Rattle.outcome.specs.declared.Outcome.{Outcome}
 use Rattle.outcome.specs.declared.Outcome.TheVariants.{Void as void, Late as late, Next as next}
-use Rattle.slot.specs.Slot.{StateView, slot, runner_after, start_state}
+use Rattle.slot.specs.Slot.{StateView, slot, start_state}
 use Rattle.slot.specs.Work.{sees, serve_all, serve, serve_job}
 use Rattle.runs.specs.Arrivals.{arrivals_of, ArrivalsLaw}
-use Rattle.runs.specs.Run.{arrives, Ending, ends_in, ends_late, RunFrom, empty, last_late, way_then, Run, Proper, IsTask}
+use Rattle.runs.specs.Run.{arrives, Ending, ends_in, ends_late, RunFrom, empty, last_late, way_then, Proper, IsTask}
 use Rattle.runs.specs.Work.{IsLate, Chosen}
 use Rattle.slot.specs.Slot.{event}
 use Rattle.slot.specs.declared.event.Event.{Event}

@@ -1,5 +1,5 @@
 -- The task that a run picks. Assumes nothing.
-use Rattle.std.proofs.Common.{◌≡◌, ℕ, zero, suc, ◌+◌, ◌-◌, ◌<◌, ◌≤◌, Bool, true, false, cond, ◌⊎◌, List, [], ◌∷◌, length, get_or, is_some, Some, None, Option, sym, refl, ap, ◌∙◌, inl, inr, arith}
+use Rattle.std.proofs.Common.{◌≡◌, ℕ, zero, suc, ◌-◌, ◌<◌, ◌≤◌, true, false, ◌⊎◌, List, [], ◌∷◌, is_some, Some, None, Option, sym, refl, ◌∙◌, inl, inr, arith}
 use Rattle.std.specs.List.{slice_get}
 use Rattle.std.proofs.lemmas.Bool.{cases_order, both_ways}
 use Rattle.dispatch.specs.declared.Seen.{Seen}
@@ -7,11 +7,9 @@ use Rattle.dispatch.specs.Picks.{Picks, job_at, has_job, by_priority, by_age, wa
 use Rattle.dispatch.specs.Order.{key_at, key_of, Before, Foremost}
 use Rattle.dispatch.proofs.Foremost.{priority_first, age_first}
 use Rattle.plans.specs.Tasks.{TaskView}
-use Rattle.slot.specs.Slot.{start_state}
-use Rattle.runs.specs.Dispatch.{AgeAsShown, SeenAsShown, last_runner, DispatchLaw, Highest, PriorityLaw, Oldest, WaitingLaw}
-use Rattle.runs.specs.Lateness.{Overlaps}
+use Rattle.runs.specs.Dispatch.{AgeAsShown, SeenAsShown, last_runner, DispatchLaw, PriorityLaw, WaitingLaw}
 use Rattle.runs.specs.Pending.{PendingIn}
-use Rattle.runs.specs.Run.{arrives, Ending, Run, event_at, Proper, IsTask}
+use Rattle.runs.specs.Run.{arrives, Run, event_at, Proper, IsTask}
 use Rattle.slot.specs.declared.event.Event.{Event}
 use Rattle.runs.proofs.Response.{slot_of, clear_picked}
 use Rattle.runs.proofs.Lateness.{crossed_here}

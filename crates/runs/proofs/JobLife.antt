@@ -1,10 +1,10 @@
 -- One task's job through a run. Assumes nothing.
-use Rattle.std.proofs.Common.{◌≡◌, ℕ, zero, suc, ◌+◌, ◌-◌, ◌<◌, ◌≤◌, Bool, true, false, cond, not, ◌&&◌, eqb, ltb, leb, ◌⊎◌, Some, None, Option, sym, refl, ap, ◌∙◌, inl, inr, add-one, arith, eqb-true, leb-false, leb-true}
+use Rattle.std.proofs.Common.{◌≡◌, ℕ, ◌+◌, ◌-◌, ◌<◌, ◌≤◌, Bool, true, false, cond, leb, ◌⊎◌, Some, None, Option, sym, refl, ap, ◌∙◌, inl, inr, add-one, arith, leb-false, leb-true}
 use Rattle.std.proofs.lemmas.Bool.{cases_Bool, cases_eq, cases_order, both_ways}
 use Rattle.slot.specs.declared.state.Job.{Job}
 use Rattle.plans.specs.Tasks.{TaskView}
 use Rattle.slot.specs.Work.{serve_job}
-use Rattle.runs.proofs.Releases.{given, overlap_is}
+use Rattle.runs.proofs.Releases.{given}
 use Rattle.runs.specs.Dispatch.{AgeAsShown}
 use Rattle.runs.specs.Pending.{PendingBefore, PendingIn}
 use Rattle.runs.specs.Response.{executed, Responds}

@@ -1,7 +1,6 @@
 -- When a run is late. Assumes nothing.
-use Rattle.std.proofs.Common.{◌≡◌, ℕ, zero, suc, ◌+◌, ◌-◌, ◌<◌, ◌≤◌, Bool, true, false, cond, eqb, ◌⊎◌, List, [], ◌∷◌, length, get_or, Some, None, Option, sym, refl, ap, ◌∙◌, inl, inr, arith}
-use Rattle.std.specs.List.{slice_get}
-use Rattle.std.proofs.lemmas.Bool.{cases_Bool, cases_eq, cases_lt}
+use Rattle.std.proofs.Common.{◌≡◌, ℕ, ◌-◌, ◌<◌, true, false, eqb, List, length, get_or, Some, None, Option, sym, refl, ap, ◌∙◌, inl, inr, arith}
+use Rattle.std.proofs.lemmas.Bool.{cases_lt}
 use Rattle.dispatch.specs.Picks.{Picks}
 use Rattle.outcome.specs.declared.Cause.{Cause}
 use Rattle.outcome.specs.declared.Cause.TheVariants.{Overlap, Deadline}
@@ -10,14 +9,14 @@ use Rattle.slot.specs.declared.state.TaskState.{TaskState}
 use Rattle.plans.specs.Tasks.{TaskView}
 use Rattle.slot.specs.Slot.{StateView}
 use Rattle.slot.specs.Work.{serve}
-use Rattle.runs.specs.Lateness.{Overlaps, MissesDeadline, Smallest, Lateness, LatenessLaw}
+use Rattle.runs.specs.Lateness.{Overlaps, MissesDeadline, Lateness, LatenessLaw}
 use Rattle.runs.specs.Pending.{PendingBefore}
-use Rattle.runs.specs.Run.{arrives, is_picked, Ending, ends_in, ends_late, Run, event_at, Timed, Proper, IsTask}
+use Rattle.runs.specs.Run.{is_picked, Ending, ends_in, ends_late, event_at, Timed, Proper, IsTask}
 use Rattle.slot.specs.declared.event.Event.{Event}
-use Rattle.runs.proofs.Outcomes.{mix, come_to, chosen, stays, round, Clear, Crossed, Tardy}
+use Rattle.runs.proofs.Outcomes.{mix, come_to, chosen, stays, Crossed, Tardy}
 use Rattle.runs.proofs.TaskSlots.{Crossing, crossing, StayingJob, staying_job}
 use Rattle.runs.proofs.JobLife.{Lives, none_pending}
-use Rattle.runs.proofs.Response.{timed_of, Know, did, clear_expires, clear_timely, clear_apart, Calm, CalmFrom, Ready, Last, Final, told}
+use Rattle.runs.proofs.Response.{timed_of, Know, did, clear_expires, clear_timely, clear_apart, Final, told}
 
 same : {X : Type 0} (a b : X) → Some a ≡ Some b → a ≡ b
 same a b h = cc

@@ -1,5 +1,5 @@
 -- A way of the plan from a way of each stream. Assumes nothing.
-use Rattle.std.proofs.Common.{◌≡◌, ℕ, zero, suc, ◌+◌, ◌-◌, ◌*◌, ◌/◌, ◌%◌, ◌<◌, ◌≤◌, Bool, true, false, cond, ◌⊎◌, List, [], ◌∷◌, length, get_or, Some, None, Option, sym, refl, ap, ◌∙◌, inl, inr, mul_comm, arith}
+use Rattle.std.proofs.Common.{◌≡◌, ℕ, zero, suc, ◌+◌, ◌*◌, ◌/◌, ◌<◌, false, List, [], ◌∷◌, get_or, Some, sym, refl, ap, mul_comm, arith}
 use lib.Arith.{digits_lt, digits_div, digits_mod}
 use Rattle.std.specs.List.{slice_get}
 use Rattle.slot.specs.declared.state.TaskState.{TaskState}

@@ -1,12 +1,10 @@
 -- Which ways are void. Assumes nothing.
-use Rattle.std.proofs.Common.{◌≡◌, ℕ, zero, suc, ◌+◌, ◌-◌, ◌*◌, ◌/◌, ◌%◌, ◌<◌, ◌≤◌, Bool, true, false, cond, eqb, leb, ◌⊎◌, List, [], ◌∷◌, ◌++◌, length, get_or, Some, None, Option, sym, refl, ap, ◌∙◌, inl, inr, mod-eq_of_lt, arith, eqb-true, leb-false, leb-true}
+use Rattle.std.proofs.Common.{◌≡◌, ℕ, ◌+◌, ◌-◌, ◌*◌, ◌/◌, ◌<◌, ◌≤◌, Bool, true, false, eqb, leb, ◌⊎◌, List, [], ◌∷◌, ◌++◌, length, Some, None, Option, sym, refl, ap, ◌∙◌, inl, inr, mod-eq_of_lt, arith, eqb-true, leb-false, leb-true}
 use lib.Arith.{digits_div, digits_mod}
-use Rattle.std.specs.List.{slice_get}
 use Rattle.std.proofs.lemmas.Bool.{cases_Bool, both_ways}
 use Rattle.std.proofs.lemmas.List.{get_or_append_left, get_or-append_right}
 use Rattle.dispatch.specs.Picks.{Picks}
 use Rattle.outcome.specs.declared.Cause.{Cause}
-use Rattle.outcome.specs.declared.Ended.{Ended}
 use Rattle.slot.specs.declared.state.Job.{Job}
 use Rattle.slot.specs.declared.state.TaskState.{TaskState}
 use Rattle.slot.specs.Arrivals.{choices, arrived, overlapping}
@@ -15,18 +13,17 @@ use Rattle.outcome.specs.declared.Outcome.{Outcome}
 use Rattle.outcome.specs.declared.Outcome.TheVariants.{Void as void, Late as late, Next as next}
 use Rattle.slot.specs.Slot.{StateView, slot}
 use Rattle.slot.specs.Work.{sees, serve_all, serve, serve_job}
-use Rattle.runs.proofs.Releases.{given, overlap_is}
-use Rattle.runs.specs.Numbering.{Chooses, Numbered, NumberingLaw}
-use Rattle.runs.specs.Pending.{PendingIn}
+use Rattle.runs.proofs.Releases.{given}
+use Rattle.runs.specs.Numbering.{Chooses, NumberingLaw}
 use Rattle.runs.specs.Response.{executed}
-use Rattle.runs.specs.Run.{arrives, is_picked, Ending, ends_in, ends_late, Run, event_at, blank, Timed, Proper, IsTask}
+use Rattle.runs.specs.Run.{arrives, is_picked, event_at, blank, Timed, Proper, IsTask}
 use Rattle.slot.specs.Slot.{event}
 use Rattle.slot.specs.declared.event.Event.{Event}
 use Rattle.runs.proofs.Outcomes.{mix, come_to, chosen, stays, over, round, Clear, Crossed, next_went, late_went, not_void, not_void_stay, stay_pending, none_beyond}
-use Rattle.runs.proofs.TaskSlots.{choose_at, choose_all, Chooser, chooser}
-use Rattle.runs.proofs.JobLife.{Lives, Mid, mid_of, executed_on, age_as_shown}
+use Rattle.runs.proofs.TaskSlots.{choose_at, choose_all, chooser}
+use Rattle.runs.proofs.JobLife.{Mid, mid_of, executed_on, age_as_shown}
 use Rattle.runs.proofs.Response.{timed_of, Know, did, follow, know_first}
-use Rattle.runs.proofs.Work.{ToldJob, told_job}
+use Rattle.runs.proofs.Work.{told_job}
 
 -- a job that may choose
 record May (picked : Bool) (d : TaskView) (o : Option Job) : Type 0 where

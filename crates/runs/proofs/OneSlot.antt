@@ -1,24 +1,16 @@
 -- What one slot does with a task. Assumes nothing.
-use Rattle.std.proofs.Common.{◌≡◌, ℕ, zero, suc, ◌+◌, ◌-◌, ◌<◌, ◌≤◌, Bool, true, false, cond, eqb, ◌⊎◌, List, [], ◌∷◌, length, get_or, Some, None, Option, sym, refl, ap, ◌∙◌, inl, inr, add-zero, add-suc, suc-add, add-one, arith}
+use Rattle.std.proofs.Common.{◌≡◌, ℕ, ◌+◌, ◌-◌, true, false, List, Some, None, arith}
 use Rattle.std.specs.List.{slice_get}
-use Rattle.std.proofs.lemmas.Bool.{cases_Bool, cases_eq}
 use Rattle.dispatch.specs.Picks.{Picks}
-use Rattle.outcome.specs.declared.Cause.{Cause}
-use Rattle.slot.specs.declared.state.Job.{Job}
 use Rattle.slot.specs.declared.state.TaskState.{TaskState}
 use Rattle.plans.specs.Tasks.{TaskView}
-use Rattle.outcome.specs.declared.Outcome.{Outcome}
-use Rattle.outcome.specs.declared.Outcome.TheVariants.{Void as void, Late as late, Next as next}
-use Rattle.slot.specs.Slot.{StateView, slot, start_state}
-use Rattle.slot.specs.Work.{serve, serve_job, serve_all}
-use Rattle.runs.proofs.Releases.{given, overlap_is}
-use Rattle.runs.specs.Response.{Responds, ResponseLaw}
-use Rattle.runs.specs.Run.{arrives, is_picked, response, of_task, Ending, ends_in, ends_late, RunFrom, empty, last_late, way_then, Run, event_at, blank, Timed, Proper, IsTask}
-use Rattle.slot.specs.Slot.{event}
+use Rattle.slot.specs.Slot.{StateView}
+use Rattle.slot.specs.Work.{serve}
+use Rattle.runs.proofs.Releases.{given}
+use Rattle.runs.specs.Run.{arrives, is_picked, response, IsTask}
 use Rattle.slot.specs.declared.event.Event.{Event}
-use Rattle.runs.proofs.Outcomes.{mix, come_to, chosen, stays, over, round, Clear, Onward, Crossed, Tardy, next_went, late_went}
-use Rattle.runs.proofs.TaskSlots.{ArrivedAt, arrived_at, alone_at, serve_all_at, ended_at, timely_at, firsts_at}
-use Rattle.runs.proofs.JobLife.{Closed, Lives, One, one_slot}
+use Rattle.runs.proofs.Outcomes.{mix, come_to, chosen, stays, round, Clear}
+use Rattle.runs.proofs.TaskSlots.{arrived_at, alone_at, serve_all_at, ended_at, timely_at}
 
 module _ (ds : List TaskView) (picks : Picks) (k : ℕ) (d : TaskView) (task : IsTask ds k d) where
   -- what a slot with no overlap does with the task

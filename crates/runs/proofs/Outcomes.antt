@@ -1,7 +1,7 @@
 -- What a slot that goes on, and a slot that is late, went through. Assumes nothing.
-use Rattle.std.proofs.Common.{◌≡◌, ℕ, zero, suc, ◌+◌, ◌-◌, ◌*◌, ◌/◌, ◌%◌, ◌<◌, ◌≤◌, Bool, true, false, cond, not, ◌&&◌, eqb, ltb, leb, ◌⊎◌, List, [], ◌∷◌, Some, None, Option, sym, refl, ap, ◌∙◌, inl, inr, arith, le-ltb, lt-ltb, eq-eqb, eqb-true}
+use Rattle.std.proofs.Common.{◌≡◌, ℕ, ◌*◌, ◌/◌, ◌%◌, ◌<◌, ◌≤◌, Bool, true, false, cond, not, ◌&&◌, eqb, ltb, ◌⊎◌, List, None, Option, sym, refl, ap, ◌∙◌, inl, inr, arith, le-ltb, lt-ltb, eq-eqb, eqb-true}
 use native.Mathlib.Nat.{div-eq_of_lt}
-use Rattle.std.proofs.lemmas.Bool.{cases_Bool, eqb-false}
+use Rattle.std.proofs.lemmas.Bool.{eqb-false}
 use Rattle.dispatch.specs.Picks.{Picks}
 use Rattle.outcome.specs.declared.Cause.{Cause}
 use Rattle.outcome.specs.declared.Cause.TheVariants.{Overlap, Deadline}
@@ -12,7 +12,7 @@ use Rattle.plans.specs.Tasks.{TaskView}
 use Rattle.slot.specs.declared.work.Round.{Round}
 use Rattle.outcome.specs.declared.Outcome.{Outcome}
 use Rattle.outcome.specs.declared.Outcome.TheVariants.{Void as void, Late as late, Next as next}
-use Rattle.slot.specs.Slot.{StateView, slot, runner_after, settled}
+use Rattle.slot.specs.Slot.{StateView, slot, runner_after}
 use Rattle.slot.specs.Work.{sees, serve_all}
 use Rattle.slot.specs.Arrivals.{arrivals_in}
 use Rattle.slot.specs.Slot.{event, ended_in}

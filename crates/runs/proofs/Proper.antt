@@ -1,5 +1,5 @@
 -- Every plan is proper. Assumes nothing.
-use Rattle.std.proofs.Common.{◌≡◌, ℕ, zero, suc, ◌+◌, ◌-◌, ◌<◌, ◌≤◌, List, [], ◌∷◌, length, Some, None, Option, sym, refl, ap, ◌∙◌, arith}
+use Rattle.std.proofs.Common.{◌≡◌, ℕ, zero, suc, List, [], ◌∷◌, length, Some, None, Option, sym, arith}
 use Rattle.std.specs.List.{slice_get}
 use Rattle.streams.specs.Meaning.{Meaning, Sound}
 use Rattle.plans.specs.declared.plan.Task.{Task}

@@ -1,30 +1,27 @@
 -- A whole run, slot by slot: responses, and what stands at its end. Assumes nothing.
-use Rattle.std.proofs.Common.{◌≡◌, ℕ, zero, suc, ◌+◌, ◌-◌, ◌<◌, ◌≤◌, Bool, true, false, cond, ◌⊎◌, List, [], ◌∷◌, length, get_or, replicate, is_some, Some, None, Option, sym, refl, ap, ◌∙◌, inl, inr, add-one, arith}
+use Rattle.std.proofs.Common.{◌≡◌, ℕ, suc, ◌+◌, ◌-◌, ◌<◌, ◌≤◌, true, false, cond, ◌⊎◌, List, [], ◌∷◌, length, replicate, is_some, Some, None, Option, sym, refl, ap, ◌∙◌, inl, inr, add-one, arith}
 use Rattle.std.specs.List.{slice_get}
 use Rattle.outcome.specs.declared.Ended.{Ended}
-use Rattle.std.proofs.lemmas.Bool.{cases_Bool, cases_eq, cases_lt}
+use Rattle.std.proofs.lemmas.Bool.{cases_eq, cases_lt}
 use Rattle.std.proofs.lemmas.List.{get_or_past}
 use Rattle.dispatch.specs.Picks.{Picks}
 use Rattle.outcome.specs.declared.Cause.{Cause}
 use Rattle.slot.specs.declared.state.Job.{Job}
 use Rattle.slot.specs.declared.state.TaskState.{TaskState}
 use Rattle.plans.specs.Tasks.{TaskView}
-use Rattle.outcome.specs.declared.Outcome.{Outcome}
-use Rattle.outcome.specs.declared.Outcome.TheVariants.{Void as void, Late as late, Next as next}
-use Rattle.slot.specs.Slot.{StateView, slot, runner_after, start_state}
-use Rattle.slot.specs.Work.{sees, age_of, serve, serve_job, serve_all}
-use Rattle.runs.specs.Dispatch.{AgeAsShown, SeenAsShown, last_runner, DispatchLaw}
-use Rattle.runs.specs.Lateness.{Unfinished, JobAsShown, UnfinishedLaw, Overlaps, MissesDeadline, Smallest, Lateness, LatenessLaw}
-use Rattle.runs.specs.Pending.{PendingBefore, PendingIn}
+use Rattle.slot.specs.Slot.{StateView, runner_after, start_state}
+use Rattle.slot.specs.Work.{sees, age_of, serve}
+use Rattle.runs.specs.Dispatch.{SeenAsShown, last_runner}
+use Rattle.runs.specs.Lateness.{JobAsShown, UnfinishedLaw, Overlaps, MissesDeadline}
+use Rattle.runs.specs.Pending.{PendingBefore}
 use Rattle.runs.specs.Response.{Responds, ResponseLaw}
-use Rattle.runs.specs.Run.{arrives, is_picked, response, of_task, Ending, ends_in, ends_late, RunFrom, empty, last_late, way_then, Run, event_at, blank, Timed, Proper, IsTask}
+use Rattle.runs.specs.Run.{is_picked, response, of_task, Ending, ends_in, ends_late, RunFrom, empty, last_late, way_then, Run, event_at, blank, Timed, Proper, IsTask}
 use Rattle.slot.specs.Slot.{event}
 use Rattle.slot.specs.declared.event.Event.{Event}
-use Rattle.outcome.specs.declared.Cause.TheVariants.{Overlap, Deadline}
 use Rattle.dispatch.specs.declared.Seen.{Seen}
-use Rattle.runs.proofs.Outcomes.{mix, come_to, chosen, stays, round, Clear, Onward, Crossed, Tardy, next_went, late_went}
-use Rattle.runs.proofs.TaskSlots.{firsts_at, sees_at, sees_only, Crossing, crossing, StayingJob, staying_job}
-use Rattle.runs.proofs.JobLife.{Closed, Alive, Lives, One, one_slot, none_pending, lives_young, age_as_shown}
+use Rattle.runs.proofs.Outcomes.{come_to, chosen, stays, round, Clear, Onward, Crossed, Tardy, next_went, late_went}
+use Rattle.runs.proofs.TaskSlots.{firsts_at, sees_at, sees_only}
+use Rattle.runs.proofs.JobLife.{Lives, One, one_slot, none_pending, lives_young, age_as_shown}
 use Rattle.runs.proofs.OneSlot.{DoesTask, does_task}
 
 pub at_zero : (s : Event) (ss : List Event) (f : ℕ → Event) (n : ℕ) → event_at (s ∷ ss) (n - n) ≡ f n → s ≡ f n

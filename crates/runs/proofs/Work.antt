@@ -1,30 +1,23 @@
 -- A run that is built by wishes shows them. Assumes nothing.
-use Rattle.std.proofs.Common.{◌≡◌, ℕ, zero, suc, ◌+◌, ◌-◌, ◌<◌, ◌≤◌, Bool, true, false, cond, eqb, leb, ◌⊎◌, List, [], ◌∷◌, length, get_or, Some, None, Option, sym, refl, ap, ◌∙◌, inl, inr, arith, eqb-true, le-leb}
-use Rattle.std.specs.List.{slice_get}
+use Rattle.std.proofs.Common.{◌≡◌, ℕ, ◌+◌, ◌-◌, ◌<◌, ◌≤◌, Bool, true, false, cond, eqb, leb, List, [], length, Some, None, Option, sym, refl, ap, ◌∙◌, inl, inr, arith, eqb-true, le-leb}
 use Rattle.std.proofs.lemmas.Bool.{cases_eq, cases_order, both_ways, lt-leb}
 use Rattle.dispatch.specs.Picks.{Picks}
-use Rattle.outcome.specs.declared.Cause.{Cause}
-use Rattle.outcome.specs.declared.Ended.{Ended}
 use Rattle.slot.specs.declared.state.Job.{Job}
-use Rattle.slot.specs.declared.state.TaskState.{TaskState}
 use Rattle.plans.specs.Tasks.{TaskView}
-use Rattle.outcome.specs.declared.Outcome.{Outcome}
-use Rattle.outcome.specs.declared.Outcome.TheVariants.{Void as void, Late as late, Next as next}
-use Rattle.slot.specs.Slot.{StateView, slot, start_state}
-use Rattle.slot.specs.Work.{serve, serve_job, age_of}
-use Rattle.runs.proofs.Releases.{given, overlap_is}
-use Rattle.runs.specs.Dispatch.{AgeAsShown}
+use Rattle.slot.specs.Slot.{StateView}
+use Rattle.slot.specs.Work.{serve, serve_job}
+use Rattle.runs.proofs.Releases.{given}
 use Rattle.runs.specs.Pending.{PendingIn}
 use Rattle.runs.specs.Response.{executed}
-use Rattle.runs.specs.Run.{arrives, is_picked, response, Ending, ends_in, ends_late, RunFrom, empty, last_late, way_then, Run, event_at, Timed, Proper, IsTask}
-use Rattle.runs.specs.Work.{Obeyed, Follows, ChoiceLaw, WorkBounds, WorkLaw}
+use Rattle.runs.specs.Run.{arrives, is_picked, response, Ending, RunFrom, empty, last_late, way_then, event_at, Timed, Proper}
+use Rattle.runs.specs.Work.{Obeyed, ChoiceLaw, WorkLaw}
 use Rattle.slot.specs.Slot.{event}
 use Rattle.slot.specs.declared.event.Event.{Event}
 use Rattle.runs.proofs.Outcomes.{come_to, chosen, stays, over, round, Clear, Onward, Crossed, Tardy, next_went, late_went}
 use Rattle.runs.proofs.TaskSlots.{choose_at}
-use Rattle.runs.proofs.JobLife.{Lives, Mid, mid_of, executed_on, age_as_shown}
-use Rattle.runs.proofs.Response.{at_zero, at_suc, timed_of, Know, did, clear_know, know_first, At, slot_of}
-use Rattle.runs.proofs.Arrivals.{Obeys, Built, built, first_at}
+use Rattle.runs.proofs.JobLife.{Lives, mid_of, executed_on, age_as_shown}
+use Rattle.runs.proofs.Response.{at_zero, at_suc, timed_of, Know, did, clear_know, know_first, slot_of}
+use Rattle.runs.proofs.Arrivals.{Obeys, built, first_at}
 
 -- a job that may choose does as it is told
 choosing : (stay : Bool) (d : TaskView) (p : ℕ) (j : Job) → d.best ≤ j.work + 1 → j.work + 1 < d.worst →

@@ -1,5 +1,5 @@
 -- A slot that is not late keeps work and age within bounds. Assumes nothing.
-use Rattle.std.proofs.Common.{◌≡◌, ℕ, ◌+◌, ◌<◌, ◌≤◌, Bool, true, false, cond, ◌&&◌, eqb, leb, ◌⊎◌, List, [], ◌∷◌, Some, None, Option, sym, refl, ap, ◌∙◌, inl, inr, arith, le-leb, leb-false, leb-true}
+use Rattle.std.proofs.Common.{◌≡◌, ℕ, ◌+◌, ◌≤◌, Bool, true, false, eqb, leb, List, [], ◌∷◌, Some, None, Option, refl, inl, inr, arith, le-leb, leb-false, leb-true}
 use Rattle.std.proofs.lemmas.Bool.{cases_Bool, and_parts, and_from}
 use Rattle.streams.specs.Meaning.{Meaning}
 use Rattle.plans.specs.declared.plan.Task.{Task}
@@ -7,9 +7,9 @@ use Rattle.slot.specs.declared.state.Job.{Job}
 use Rattle.slot.specs.declared.state.TaskState.{TaskState}
 use Rattle.plans.specs.Limits.{deadline_limit}
 use Rattle.slot.specs.Bounded.{JobBounded, Bounded, job_bounded, bounded}
-use Rattle.plans.specs.Tasks.{TaskView, task_view, task_views}
+use Rattle.plans.specs.Tasks.{TaskView, task_views}
 use Rattle.slot.specs.Slot.{firsts}
-use Rattle.slot.specs.Work.{serve, serve_job, works, serve_all}
+use Rattle.slot.specs.Work.{serve, serve_job, serve_all}
 
 test_job_bounded : (o : Option Job) → job_bounded o ≡ true → JobBounded o
 test_job_bounded None h = tt

@@ -1,7 +1,7 @@
 -- The places of a plan and of a state, one by one. Assumes nothing.
-use Rattle.std.proofs.Common.{◌≡◌, ℕ, zero, suc, ◌+◌, ◌-◌, ◌*◌, ◌^◌, ◌<◌, ◌≤◌, Bool, true, false, cond, eqb, ◌⊎◌, List, [], ◌∷◌, ◌++◌, map, length, get_or, take, drop, set, replicate, Some, None, Option, sym, refl, ap, ◌∙◌, inl, inr, append_assoc, mul_assoc, mul-le-mul, mul-one, add-one, arith, take-append-drop, take-suc-set, pow-add, ne_eqb, eqb-true}
+use Rattle.std.proofs.Common.{◌≡◌, ℕ, zero, suc, ◌+◌, ◌-◌, ◌*◌, ◌^◌, ◌<◌, ◌≤◌, Bool, false, cond, eqb, List, [], ◌∷◌, ◌++◌, map, length, get_or, take, drop, set, replicate, None, sym, refl, ap, ◌∙◌, inl, inr, append_assoc, mul-le-mul, mul-one, add-one, arith, take-append-drop, take-suc-set, pow-add, ne_eqb, eqb-true}
 use Rattle.std.proofs.lemmas.Bool.{cases_Bool}
-use Rattle.std.proofs.lemmas.List.{drop_more, drop_all, drop-set-lt}
+use Rattle.std.proofs.lemmas.List.{drop_more, drop-set-lt}
 use Rattle.slot.specs.declared.state.TaskState.{TaskState}
 use Rattle.slot.specs.declared.arrive.Arrival.{Arrival}
 use Rattle.slot.specs.Slot.{firsts}

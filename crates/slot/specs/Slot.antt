@@ -1,7 +1,6 @@
 -- One slot: the arrivals, the pick, the work, the ages and the deadlines.
-use Rattle.std.specs.Prelude.{ℕ, ◌*◌, ◌/◌, ◌%◌, Bool, true, false, cond, not, ◌&&◌, List, [], ◌∷◌, replicate, Some, None, Option, ◌==◌, nat_eq, nat_lt}
+use Rattle.std.specs.Prelude.{ℕ, ◌*◌, ◌/◌, ◌%◌, Bool, cond, not, ◌&&◌, List, [], ◌∷◌, replicate, Some, None, Option, ◌==◌, nat_eq, nat_lt}
 use Rattle.dispatch.specs.Picks.{Picks}
-use Rattle.outcome.specs.declared.Cause.{Cause}
 use Rattle.outcome.specs.declared.Cause.TheVariants.{Overlap, Deadline}
 use Rattle.outcome.specs.declared.Ended.{Ended}
 use Rattle.outcome.specs.declared.Outcome.{Outcome}

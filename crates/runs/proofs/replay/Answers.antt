@@ -1,11 +1,9 @@
-use Rattle.std.proofs.Common.{◌≡◌, ℕ, ◌+◌, ◌<◌, ◌≤◌, min, List, length, take, drop, set, sym, refl, ap, ◌∙◌, arith, length-set}
+use Rattle.std.proofs.Common.{◌≡◌, ℕ, ◌<◌, min, List, length, sym, refl, ap, ◌∙◌, arith, length-set}
 use native.Mathlib.Nat.{min-le_left, min-le_right}
-use Rattle.std.proofs.lemmas.List.{drop_more, drop-set-lt}
 use Rattle.dispatch.specs.Picks.{Picks}
-use Rattle.slot.specs.declared.event.Event.{Event}
 use Rattle.plans.specs.Tasks.{TaskView, task_views}
-use Rattle.slot.specs.Slot.{StateView, state_view, start_state}
-use Rattle.runs.specs.Run.{ends_in, Run, RunFrom, empty}
+use Rattle.slot.specs.Slot.{state_view, start_state}
+use Rattle.runs.specs.Run.{ends_in, RunFrom, empty}
 use Rattle.runs.proofs.Proper.{proper_plan}
 use Rattle.runs.proofs.Replaying.{replay_next, replay_late, rest_more}
 use Rattle.runs.proofs.Laws.{laws_stand}

@@ -1,4 +1,4 @@
-use Rattle.std.proofs.Common.{◌≡◌, length, take, drop}
+use Rattle.std.proofs.Common.{◌≡◌, take, drop}
 use Rattle.plans.specs.Tasks.{task_views}
 use Rattle.slot.specs.Slot.{state_view}
 use Rattle.runs.specs.Run.{ends_in, Run}

@@ -1,4 +1,4 @@
-use Rattle.std.proofs.Common.{◌≡◌, true, false, eqb, length, sym, refl, ap, ◌∙◌, eq-eqb, ne_eqb}
+use Rattle.std.proofs.Common.{◌≡◌, true, false, eqb, length, sym, refl, ◌∙◌, eq-eqb, ne_eqb}
 use Rattle.plans.specs.Tasks.{task_views}
 use Rattle.slot.specs.Slot.{state_view}
 use Rattle.schedule.specs.PlanSystem.{plan_system}

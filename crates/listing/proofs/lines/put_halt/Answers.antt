@@ -1,5 +1,4 @@
-use Rattle.std.proofs.Common.{◌≡◌, List, [], ◌∷◌, ◌++◌, codes, arith}
-use Rattle.listing.specs.Parts.{part_letter}
+use Rattle.std.proofs.Common.{[], ◌∷◌, codes, arith}
 use Rattle.listing.proofs.Puts.{field_put}
 use Rattle.listing.proofs.lines.put_halt.Goals as goal
 

@@ -1,8 +1,8 @@
-use Rattle.std.proofs.Common.{◌≡◌, ℕ, List, [], ◌∷◌, ◌++◌, codes, decimal, sym, refl, ap, ◌∙◌, arith}
+use Rattle.std.proofs.Common.{◌≡◌, ℕ, [], ◌∷◌, ◌++◌, codes, decimal, refl, arith}
 use Rattle.outcome.specs.declared.Cause.{Cause}
 use Rattle.exploration.specs.declared.Stage.{Stage}
 use Rattle.exploration.specs.declared.Stage.TheVariants.{Walking, Complete, Late}
-use Rattle.listing.specs.Lines.{stage_field, late_fields, line}
+use Rattle.listing.specs.Lines.{stage_field, late_fields}
 use Rattle.listing.proofs.Puts.{short_8, short_16, short_64, field_put}
 use Rattle.listing.proofs.lines.put_stage.Goals as goal
 

@@ -1,4 +1,4 @@
-use Rattle.std.proofs.Common.{◌≡◌, ℕ, suc, ◌+◌, subst, add-one, arith}
+use Rattle.std.proofs.Common.{ℕ, suc, subst, add-one, arith}
 use Rattle.table.specs.View.{times_of}
 use Rattle.listing.specs.Put.{Put}
 use Rattle.listing.specs.Lines.{task_line, task_lines}

@@ -1,4 +1,4 @@
-use Rattle.std.proofs.Common.{◌*◌, ◌≤◌, length}
+use Rattle.std.proofs.Common.{◌*◌, ◌≤◌}
 use Rattle.table.specs.View.{times_of}
 use Rattle.listing.specs.Put.{Put}
 use Rattle.listing.specs.Lines.{task_lines}

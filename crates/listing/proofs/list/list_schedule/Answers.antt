@@ -1,4 +1,4 @@
-use Rattle.std.proofs.Common.{◌≡◌, arith}
+use Rattle.std.proofs.Common.{arith}
 use Rattle.plans.specs.Tasks.{task_views}
 use Rattle.slot.specs.Slot.{state_view}
 use Rattle.runs.proofs.Proper.{proper_plan}

@@ -1,5 +1,4 @@
-use Rattle.std.proofs.Common.{◌≡◌, sym, refl, ap, ◌∙◌}
-use Rattle.streams.specs.Periodic.{periodic}
+use Rattle.std.proofs.Common.{sym, ap, ◌∙◌}
 use Rattle.streams.specs.Sporadic.{sporadic}
 use Rattle.plans.specs.Record.{stream_fault, stream_meaning}
 use Rattle.plans.proofs.record.stream.Goals as goal

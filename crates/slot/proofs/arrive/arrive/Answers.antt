@@ -1,7 +1,7 @@
-use Rattle.std.proofs.Common.{◌≡◌, ◌+◌, ◌<◌, ◌≤◌, cond, eqb, length, get_or, take, drop, None, sym, refl, ap, ◌∙◌, inl, inr, append-nil, arith, length-set, take-append-drop}
+use Rattle.std.proofs.Common.{◌≡◌, ◌+◌, length, drop, None, sym, refl, ap, ◌∙◌, arith, length-set}
 use Rattle.std.proofs.lemmas.List.{drop_all}
 use Rattle.slot.specs.declared.state.TaskState.{TaskState}
-use Rattle.slot.specs.Arrivals.{overlaps, arrived, overlapping}
+use Rattle.slot.specs.Arrivals.{overlaps}
 use Rattle.slot.specs.declared.arrive.Arrival.{Arrival}
 use Rattle.plans.specs.Tasks.{task_view, task_views}
 use Rattle.plans.proofs.Views.{task_views_more, task_views_end}

@@ -1,4 +1,4 @@
-use Rattle.std.proofs.Common.{◌≡◌, ◌+◌, ◌≤◌, false, cond, eqb, ◌++◌, map, length, take, drop}
+use Rattle.std.proofs.Common.{◌≡◌, ◌+◌, false, cond, eqb, ◌++◌, map, length, take, drop}
 use Rattle.slot.specs.Arrivals.{arrivals_in, arrived, overlapping}
 use Rattle.plans.specs.Tasks.{task_views}
 use Rattle.slot.proofs.arrive.arrive.Given as goal

@@ -1,8 +1,6 @@
-use Rattle.std.proofs.Common.{◌≡◌, ◌+◌, ◌*◌, ◌^◌, ◌<◌, ◌≤◌, length, get_or, drop, None, sym, refl, ap, ◌∙◌, mul_assoc, mul-le-mul, mul-one, arith, pow-add}
+use Rattle.std.proofs.Common.{◌≡◌, ◌+◌, ◌*◌, ◌≤◌, length, drop, None, sym, ap, ◌∙◌, mul_assoc, mul-le-mul, mul-one, arith, pow-add}
 use mir.Facts.{Fits-below}
 use Rattle.std.proofs.lemmas.List.{drop_all}
-use Rattle.slot.specs.declared.state.TaskState.{TaskState}
-use Rattle.slot.specs.Arrivals.{choices}
 use Rattle.plans.specs.Tasks.{task_view, task_views}
 use Rattle.plans.proofs.Views.{task_views_more, task_views_end}
 use Rattle.slot.proofs.Lists.{choices_more, four_pow, four_all}

@@ -1,4 +1,4 @@
-use Rattle.std.proofs.Common.{◌≡◌, ◌+◌, [], length, drop, replicate, None, sym, refl, ap, ◌∙◌, arith, length-set}
+use Rattle.std.proofs.Common.{◌≡◌, ◌+◌, [], length, drop, replicate, None, refl, ap, ◌∙◌, arith, length-set}
 use Rattle.std.proofs.lemmas.List.{drop_all}
 use Rattle.slot.specs.declared.state.TaskState.{TaskState}
 use Rattle.plans.specs.Tasks.{task_view, task_views}

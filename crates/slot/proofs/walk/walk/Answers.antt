@@ -1,4 +1,4 @@
-use Rattle.std.proofs.Common.{◌≡◌, sym, arith, rules}
+use Rattle.std.proofs.Common.{rules}
 use Rattle.slot.specs.Arrivals.{arrived}
 use Rattle.plans.specs.Tasks.{task_views}
 use Rattle.slot.specs.Bounded.{Bounded}

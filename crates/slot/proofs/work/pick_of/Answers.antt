@@ -1,8 +1,7 @@
-use Rattle.std.proofs.Common.{◌≡◌, ◌+◌, ◌-◌, ◌≤◌, [], ◌++◌, length, take, drop, None, sym, refl, ap, ◌∙◌, append-nil, arith, length-set, length-take, rules}
+use Rattle.std.proofs.Common.{◌≡◌, ◌+◌, ◌-◌, ◌≤◌, [], length, take, drop, None, refl, ap, ◌∙◌, arith, length-set, length-take, rules}
 use Rattle.std.proofs.lemmas.List.{drop_all}
 use Rattle.slot.specs.declared.state.TaskState.{TaskState}
 use Rattle.plans.specs.Tasks.{task_view, task_views}
-use Rattle.slot.specs.Work.{sees}
 use Rattle.plans.proofs.Views.{task_views_more, task_views_end}
 use Rattle.slot.proofs.Few.{picks_few}
 use Rattle.slot.proofs.Rounds.{sees_more, sees_done}

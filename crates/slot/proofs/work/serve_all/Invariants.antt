@@ -1,8 +1,6 @@
-use Rattle.std.proofs.Common.{◌≡◌, ◌+◌, true, cond, ◌||◌, eqb, ◌++◌, length, take, drop}
+use Rattle.std.proofs.Common.{◌+◌, drop}
 use Rattle.plans.specs.Tasks.{task_views}
-use Rattle.slot.specs.declared.work.Round.{Round}
-use Rattle.slot.specs.Work.{serve_all, either}
-use Rattle.slot.specs.Bounded.{Bounded}
+use Rattle.slot.specs.Work.{serve_all}
 use Rattle.slot.proofs.Rounds.{Onward}
 use Rattle.slot.proofs.work.serve_all.Given as goal
 

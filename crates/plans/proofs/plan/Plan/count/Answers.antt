@@ -1,6 +1,6 @@
-use Rattle.std.proofs.Common.{◌≡◌, ◌+◌, length, drop, sym, refl, ap, ◌∙◌, arith}
+use Rattle.std.proofs.Common.{◌≡◌, length, ap, arith}
 use Rattle.std.proofs.lemmas.List.{drop_all}
-use Rattle.plans.specs.Tasks.{task_view, task_views}
+use Rattle.plans.specs.Tasks.{task_views}
 use Rattle.plans.proofs.Views.{task_views_more, task_views_end}
 use Rattle.plans.proofs.plan.Plan.count.Goals as goal
 

@@ -1,4 +1,4 @@
-use Rattle.std.proofs.Common.{◌≡◌, ◌+◌, ◌<◌, length, sym, refl, ap, ◌∙◌, arith, length-set, le-ltb, lt-ltb}
+use Rattle.std.proofs.Common.{◌≡◌, ◌+◌, length, refl, ap, arith, length-set, le-ltb, lt-ltb}
 use Rattle.plans.specs.Tasks.{task_views}
 use Rattle.plans.proofs.Places.{put}
 use Rattle.plans.proofs.plan.Plan.put.Goals as goal

@@ -1,10 +1,9 @@
-use Rattle.std.proofs.Common.{◌≡◌, ℕ, ◌+◌, ◌-◌, ◌<◌, ◌≤◌, List, [], length, take, drop, Ok, Err, sym, refl, ap, ◌∙◌, arith}
+use Rattle.std.proofs.Common.{◌≡◌, ℕ, ◌+◌, ◌-◌, ◌≤◌, List, [], length, drop, Ok, sym, ap, ◌∙◌, arith}
 use native.Mathlib.Nat.{min-le_left}
 use Rattle.std.proofs.lemmas.List.{drop_all}
 use Rattle.refusals.specs.declared.Fault.{Fault}
 use Rattle.plans.specs.Tasks.{TaskView, task_views}
-use Rattle.plans.specs.Adding.{adding}
-use Rattle.plans.specs.Record.{kind_meaning, read_record, records, add_records}
+use Rattle.plans.specs.Record.{kind_meaning, records, add_records}
 use Rattle.plans.proofs.Views.{views_few}
 use Rattle.plans.proofs.Records.{added_ok, added_err, one_more, refused_stays, no_records, record_next, reads_err}
 use Rattle.plans.proofs.record.Plan+Kind.from_bytes.Goals as goal
