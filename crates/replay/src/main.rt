@@ -11,15 +11,18 @@ use rules::{NAMES, Rule, named};
 use runs::{Replayed, Stop, replay};
 use slot::event::Event;
 use std::env;
+use std::process::ExitCode;
 use text::SlotLine;
 use ways::read_ways;
 
-fn main(rt: HostRuntime) -> anyhow::Result<()> {
-    let done = run(&rt);
-    if let Err(error) = &done {
-        eprintln!(rt; "replay: {error}")?;
+fn main(rt: HostRuntime) -> ExitCode {
+    match run(&rt) {
+        Ok(()) => ExitCode::SUCCESS,
+        Err(error) => {
+            let _ = eprintln!(rt; "replay: {error}");
+            ExitCode::FAILURE
+        }
     }
-    done
 }
 
 // Replays plan.bin along the ways in ways.txt.

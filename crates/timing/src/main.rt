@@ -5,13 +5,16 @@ use anyhow::anyhow;
 use files::read_if_present;
 use listing::list::listing;
 use std::io::Write;
+use std::process::ExitCode;
 
-fn main(rt: HostRuntime) -> anyhow::Result<()> {
-    let done = run(&rt);
-    if let Err(error) = &done {
-        eprintln!(rt; "timing: {error}")?;
+fn main(rt: HostRuntime) -> ExitCode {
+    match run(&rt) {
+        Ok(()) => ExitCode::SUCCESS,
+        Err(error) => {
+            let _ = eprintln!(rt; "timing: {error}");
+            ExitCode::FAILURE
+        }
     }
-    done
 }
 
 // Nine plan records, of which the ninth is refused, and 4,095 records of evidence; a file that is absent is empty.
