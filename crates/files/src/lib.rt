@@ -8,10 +8,11 @@ use std::fs::File;
 use std::io;
 use std::io::{ErrorKind, Read};
 
-// Reads an open file into the place until it is full or the file ends.
-fn fill(file: &mut File, place: &mut [u8]) -> io::Result<usize>
+// Reads a file into the place until it is full or the file ends.
+pub fn fill(rt: &HostRuntime, path: &str, place: &mut [u8]) -> io::Result<usize>
     ensures { IfOk result (λ n. n ≤ length place.old) }
 {
+    let mut file = File::open(rt, path)?;
     let mut at = 0;
     while at < place.len() {
         let n = file.read(&mut place[at..])?;
@@ -28,22 +29,12 @@ fn named(path: &str, error: io::Error) -> anyhow::Error {
     anyhow!("{path}: {error}")
 }
 
-// The first bytes of an open file, as many as there are or the place holds.
-fn read_open(path: &str, mut file: File, place: &mut [u8]) -> anyhow::Result<usize>
-    ensures { IfOk result (λ n. n ≤ length place.old) }
-{
-    match fill(&mut file, place) {
-        Ok(n) => Ok(n),
-        Err(error) => Err(named(path, error)),
-    }
-}
-
 // The first bytes of a file, as many as there are or the place holds.
 pub fn read(rt: &HostRuntime, path: &str, place: &mut [u8]) -> anyhow::Result<usize>
     ensures { IfOk result (λ n. n ≤ length place.old) }
 {
-    match File::open(rt, path) {
-        Ok(file) => read_open(path, file, place),
+    match fill(rt, path, place) {
+        Ok(n) => Ok(n),
         Err(error) => Err(named(path, error)),
     }
 }
@@ -52,8 +43,8 @@ pub fn read(rt: &HostRuntime, path: &str, place: &mut [u8]) -> anyhow::Result<us
 pub fn read_if_present(rt: &HostRuntime, path: &str, place: &mut [u8]) -> anyhow::Result<usize>
     ensures { IfOk result (λ n. n ≤ length place.old) }
 {
-    match File::open(rt, path) {
-        Ok(file) => read_open(path, file, place),
+    match fill(rt, path, place) {
+        Ok(n) => Ok(n),
         Err(error) => {
             if error.kind() == ErrorKind::NotFound {
                 Ok(0)
