@@ -14,6 +14,7 @@ use slot::event::Event;
 use slot::state::State;
 use slot::{start, walk};
 use std::alloc::Global;
+use std::process::Abort;
 use std::test::*;
 use streams::Stream;
 
@@ -85,6 +86,7 @@ impl Trial {
     // One way of a slot in both schedulers, and where it leads.
     pub(crate) fn compare<D: Dispatch>(
         &mut self,
+        rt: &impl Abort,
         plan: &Plan<Streams>,
         rule: &D,
         pair: &Pair,
@@ -96,12 +98,12 @@ impl Trial {
         match walk::walk(plan, rule, &pair.state, way) {
             Outcome::Void => self.void(other),
             Outcome::Late { task, cause, ended } => {
-                assert_eq!(done_of(ended), done_of(event.ended), "ended");
-                self.late(task, cause_of(cause), &event, other, stay)
+                assert_eq!(rt; done_of(ended), done_of(event.ended), "ended");
+                self.late(rt, task, cause_of(cause), &event, other, stay)
             }
             Outcome::Next { state, ended } => {
-                assert_eq!(done_of(ended), done_of(event.ended), "ended");
-                self.next(state, &event, other, stay)
+                assert_eq!(rt; done_of(ended), done_of(event.ended), "ended");
+                self.next(rt, state, &event, other, stay)
             }
         }
     }
@@ -118,6 +120,7 @@ impl Trial {
     // The library says late.
     fn late(
         &mut self,
+        rt: &impl Abort,
         task: u8,
         cause: PeerCause,
         event: &Event,
@@ -132,9 +135,9 @@ impl Trial {
         else {
             return Err(Fail::new("late in the library alone"));
         };
-        assert_eq!(task, named, "late task");
-        assert_eq!(cause, why, "cause");
-        same_event(event, &shown)?;
+        assert_eq!(rt; task, named, "late task");
+        assert_eq!(rt; cause, why, "cause");
+        same_event(rt, event, &shown);
         self.tally.late(why);
         self.tally.seen(&shown, stay);
         Ok(None)
@@ -143,6 +146,7 @@ impl Trial {
     // The library goes on.
     fn next(
         &mut self,
+        rt: &impl Abort,
         state: State,
         event: &Event,
         other: PeerOutcome,
@@ -151,8 +155,8 @@ impl Trial {
         let PeerOutcome::Next { peer, shown } = other else {
             return Err(Fail::new("goes on in the library alone"));
         };
-        same_event(event, &shown)?;
-        same_state(&state, &peer)?;
+        same_event(rt, event, &shown);
+        same_state(rt, &state, &peer);
         self.tally.seen(&shown, stay);
         Ok(Some(Pair { state, peer }))
     }
@@ -160,16 +164,17 @@ impl Trial {
     // Some ways of a slot. The next slot is where one of them leads, if one leads on.
     fn step<D: Dispatch>(
         &mut self,
+        rt: &impl Abort,
         plan: &Plan<Streams>,
         rule: &D,
         pair: &Pair,
         next: &mut Option<Pair>,
     ) -> Result<(), Fail> {
         let ways = walk::ways(plan, &pair.state);
-        assert_eq!(ways, pair.peer.ways(), "count of ways");
+        assert_eq!(rt; ways, pair.peer.ways(), "count of ways");
         for i in 0..8 {
             let way = self.way(i, ways);
-            if let Some(after) = self.compare(plan, rule, pair, way)? {
+            if let Some(after) = self.compare(rt, plan, rule, pair, way)? {
                 *next = Some(after);
             }
         }
@@ -190,6 +195,7 @@ impl Trial {
     // So many slots from the start, or fewer where none of the ways drawn leads on.
     fn run<D: Dispatch>(
         &mut self,
+        rt: &impl Abort,
         plan: &Plan<Streams>,
         rule: &D,
         peer: Peer,
@@ -199,10 +205,9 @@ impl Trial {
             state: start::start(plan),
             peer,
         };
-        for slot in 0..slots {
+        for _ in 0..slots {
             let mut next = None;
-            self.step(plan, rule, &pair, &mut next)
-                .note(format_args!("slot {slot}"))?;
+            self.step(rt, plan, rule, &pair, &mut next)?;
             let Some(after) = next else {
                 return Ok(());
             };
@@ -212,45 +217,46 @@ impl Trial {
     }
 
     // The plan of these tasks under each rule.
-    pub(crate) fn all_rules(&mut self, tasks: &[Numbers], slots: u32) -> Result<(), Fail> {
+    pub(crate) fn all_rules(
+        &mut self,
+        rt: &impl Abort,
+        tasks: &[Numbers],
+        slots: u32,
+    ) -> Result<(), Fail> {
         let plan = plan_of(tasks)?;
         let heap = self.heap;
         let peer = Peer::new(heap, Rule::Priority, tasks)?;
-        self.run(&plan, &Priority, peer, slots).note("priority")?;
+        self.run(rt, &plan, &Priority, peer, slots)?;
         let peer = Peer::new(heap, Rule::Waiting, tasks)?;
-        self.run(&plan, &Waiting, peer, slots).note("waiting")?;
+        self.run(rt, &plan, &Waiting, peer, slots)?;
         let peer = Peer::new(heap, Rule::KeepingPriority, tasks)?;
-        self.run(&plan, &Keeping { below: Priority }, peer, slots)
-            .note("keeping over priority")?;
+        self.run(rt, &plan, &Keeping { below: Priority }, peer, slots)?;
         let peer = Peer::new(heap, Rule::KeepingWaiting, tasks)?;
-        self.run(&plan, &Keeping { below: Waiting }, peer, slots)
-            .note("keeping over waiting")
+        self.run(rt, &plan, &Keeping { below: Waiting }, peer, slots)
     }
 }
 
 // What a slot shows is the same in both.
-fn same_event(event: &Event, shown: &Shown) -> Result<(), Fail> {
-    assert_eq!(event.picked, shown.picked.unwrap_or(0), "picked");
-    assert_eq!(done_of(event.ended), shown.ended, "ended");
+fn same_event(rt: &impl Abort, event: &Event, shown: &Shown) {
+    assert_eq!(rt; event.picked, shown.picked.unwrap_or(0), "picked");
+    assert_eq!(rt; done_of(event.ended), shown.ended, "ended");
     let mut task = 0u8;
     for came in event.arrivals.iter() {
         task = task.saturating_add(1);
-        assert_eq!(*came, shown.arrivals.contains(&task), "arrival of {task}");
+        assert_eq!(rt; *came, shown.arrivals.contains(&task), "arrival of {task}");
     }
-    Ok(())
 }
 
 // The jobs and the last runner are the same in both.
-fn same_state(state: &State, peer: &Peer) -> Result<(), Fail> {
-    assert_eq!(state.last, peer.runner().unwrap_or(0), "last runner");
+fn same_state(rt: &impl Abort, state: &State, peer: &Peer) {
+    assert_eq!(rt; state.last, peer.runner().unwrap_or(0), "last runner");
     let mut task = 0u8;
     for mine in state.tasks.iter() {
         task = task.saturating_add(1);
-        assert_eq!(
+        assert_eq!(rt;
             work_and_age(mine.job),
             peer.work_and_age(task),
             "job of {task}"
         );
     }
-    Ok(())
 }

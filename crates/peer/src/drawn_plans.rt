@@ -26,13 +26,12 @@ fn large_plan(trial: &mut Trial, count: u16) -> Result<Vec<Numbers>, Fail> {
 }
 
 // That each thing was seen at least so often.
-fn seen_often(rt: &impl Abort, tally: Tally, times: u32) -> Result<(), Fail> {
+fn seen_often(rt: &impl Abort, tally: Tally, times: u32) {
     assert!(rt; tally.void >= times, "void");
     assert!(rt; tally.overlap >= times, "late by an overlap");
     assert!(rt; tally.deadline >= times, "late by a deadline");
     assert!(rt; tally.ended >= times, "ended");
     assert!(rt; tally.stayed >= times, "stayed by choice");
-    Ok(())
 }
 
 fn show(rt: &HostRuntime, tally: Tally) -> Result<(), Fail> {
@@ -55,10 +54,11 @@ fn small_numbers(rt: HostRuntime) -> Result<(), Fail> {
     let mut trial = Trial::new(rt.alloc(), 2_463_534_242, 20);
     for i in 0..400u16 {
         let tasks = small_plan(&mut trial, i % 8 + 1, i / 8 % 5 + 1)?;
-        trial.all_rules(&tasks, 60).note(format_args!("plan {i}"))?;
+        trial.all_rules(&rt, &tasks, 60)?;
     }
     show(&rt, trial.tally)?;
-    seen_often(&rt, trial.tally, 1000)
+    seen_often(&rt, trial.tally, 1000);
+    Ok(())
 }
 
 #[test]
@@ -66,12 +66,11 @@ fn large_numbers(rt: HostRuntime) -> Result<(), Fail> {
     let mut trial = Trial::new(rt.alloc(), 88_675_123, 97);
     for i in 0..24u16 {
         let tasks = large_plan(&mut trial, i % 8 + 1)?;
-        trial
-            .all_rules(&tasks, 9000)
-            .note(format_args!("plan {i}"))?;
+        trial.all_rules(&rt, &tasks, 9000)?;
     }
     show(&rt, trial.tally)?;
-    seen_often(&rt, trial.tally, 100)
+    seen_often(&rt, trial.tally, 100);
+    Ok(())
 }
 
 // A period, jitter, gaps, offset, times and deadline that are as great as may be. Each slot shows five ways or more.
@@ -104,7 +103,7 @@ fn limits(rt: HostRuntime) -> Result<(), Fail> {
         },
     ];
     let mut trial = Trial::new(rt.alloc(), 521_288_629, 100);
-    trial.all_rules(&tasks, 13_000)?;
+    trial.all_rules(&rt, &tasks, 13_000)?;
     assert!(rt; trial.tally.slots >= 260_000, "a run stopped early");
     Ok(())
 }

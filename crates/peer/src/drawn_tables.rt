@@ -96,27 +96,24 @@ impl Trial {
     }
 
     // Tables of these tasks under each rule.
-    fn all_rules(&mut self, tasks: &[Numbers]) -> Result<(), Fail> {
+    fn all_rules(&mut self, rt: &impl Abort, tasks: &[Numbers]) -> Result<(), Fail> {
         let rule = Priority;
         let plan = plan_of(tasks)?;
-        self.one_rule(Rule::Priority, tasks, &Schedule { plan, rule })
-            .note("priority")?;
+        self.one_rule(rt, Rule::Priority, tasks, &Schedule { plan, rule })?;
         let rule = Waiting;
         let plan = plan_of(tasks)?;
-        self.one_rule(Rule::Waiting, tasks, &Schedule { plan, rule })
-            .note("waiting")?;
+        self.one_rule(rt, Rule::Waiting, tasks, &Schedule { plan, rule })?;
         let rule = Keeping { below: Priority };
         let plan = plan_of(tasks)?;
-        self.one_rule(Rule::KeepingPriority, tasks, &Schedule { plan, rule })
-            .note("keeping over priority")?;
+        self.one_rule(rt, Rule::KeepingPriority, tasks, &Schedule { plan, rule })?;
         let rule = Keeping { below: Waiting };
         let plan = plan_of(tasks)?;
-        self.one_rule(Rule::KeepingWaiting, tasks, &Schedule { plan, rule })
-            .note("keeping over waiting")
+        self.one_rule(rt, Rule::KeepingWaiting, tasks, &Schedule { plan, rule })
     }
 
     fn one_rule<D: Dispatch>(
         &mut self,
+        rt: &impl Abort,
         rule: Rule,
         tasks: &[Numbers],
         schedule: &Schedule<Streams, D>,
@@ -125,35 +122,37 @@ impl Trial {
             self.tally.passed_over = self.tally.passed_over.saturating_add(1);
             return Ok(());
         };
-        self.stepped(schedule, &side).note("steps")?;
+        self.stepped(rt, schedule, &side)?;
         if side.reached.late {
             return Ok(());
         }
-        self.offers.all(schedule, &side)
+        self.offers.all(rt, schedule, &side)
     }
 
     // A table with rows enough, stepped to the end beside one that takes what it writes; and one with a row fewer.
     fn stepped<D: Dispatch>(
         &mut self,
+        rt: &impl Abort,
         schedule: &Schedule<Streams, D>,
         side: &Side,
     ) -> Result<(), Fail> {
         let states = side.reached.states();
         let mut kept = Kept::new(self.heap, schedule, states)?;
         let mut other = Kept::new(self.heap, schedule, states)?;
-        kept.finish_with(schedule, &mut other)?;
+        kept.finish_with(rt, schedule, &mut other)?;
         if side.reached.late {
-            self.tally.late(side.late(&kept)?);
+            self.tally.late(side.late(rt, &kept)?);
             return Ok(());
         }
-        side.complete(&kept)?;
+        side.complete(rt, &kept)?;
         self.tally.complete(side)?;
-        self.too_few(schedule, states)
+        self.too_few(rt, schedule, states)
     }
 
     // With one row fewer than states, a step is refused for want of a row.
     fn too_few<D: Dispatch>(
         &self,
+        rt: &impl Abort,
         schedule: &Schedule<Streams, D>,
         states: usize,
     ) -> Result<(), Fail> {
@@ -164,7 +163,7 @@ impl Trial {
         let Err(fault) = kept.finish(schedule) else {
             return Err(Fail::new("a row fewer than states"));
         };
-        assert_eq!(fault.refusal.number(), 16);
+        assert_eq!(rt; fault.refusal.number(), 16);
         Ok(())
     }
 }
@@ -192,7 +191,7 @@ fn show(rt: &HostRuntime, trial: &Trial) -> Result<(), Fail> {
 }
 
 // Each number of tasks, each cause and each refusal that evidence can meet was seen.
-fn seen(rt: &impl Abort, trial: &Trial) -> Result<(), Fail> {
+fn seen(rt: &impl Abort, trial: &Trial) {
     for tasks in 1..5u8 {
         assert!(rt;
             trial.tally.complete.get(&tasks).copied().unwrap_or(0) >= 20,
@@ -209,7 +208,6 @@ fn seen(rt: &impl Abort, trial: &Trial) -> Result<(), Fail> {
             "refusal {number}"
         );
     }
-    Ok(())
 }
 
 #[test]
@@ -236,8 +234,9 @@ fn small_tables(rt: HostRuntime) -> Result<(), Fail> {
     };
     for i in 0..600u16 {
         let tasks = trial.plan(i % 4 + 1, i / 4 % 3 + 1)?;
-        trial.all_rules(&tasks).note(format_args!("plan {i}"))?;
+        trial.all_rules(&rt, &tasks)?;
     }
     show(&rt, &trial)?;
-    seen(&rt, &trial)
+    seen(&rt, &trial);
+    Ok(())
 }

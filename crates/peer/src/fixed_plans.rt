@@ -49,7 +49,7 @@ fn walked(
         if let PeerOutcome::Next { shown, .. } = pair.peer.slot(trial.heap, *way)? {
             assert_eq!(rt; shown.ended, *done);
         }
-        let Some(after) = trial.compare(&plan, &Priority, &pair, *way)? else {
+        let Some(after) = trial.compare(rt, &plan, &Priority, &pair, *way)? else {
             return Err(Fail::new("does not go on"));
         };
         pair = after;
@@ -85,7 +85,7 @@ fn late_with_an_end(rt: HostRuntime) -> Result<(), Fail> {
     let pair = walked(&rt, &mut trial, &tasks, &[(0, None)])?;
     assert!(rt;
         trial
-            .compare(&plan_of(&tasks)?, &Priority, &pair, 0)?
+            .compare(&rt, &plan_of(&tasks)?, &Priority, &pair, 0)?
             .is_none()
     );
     let PeerOutcome::Late { task, cause, shown } = pair.peer.slot(trial.heap, 0)? else {
@@ -104,7 +104,7 @@ fn late_by_an_overlap(rt: HostRuntime) -> Result<(), Fail> {
     let pair = walked(&rt, &mut trial, &tasks, &[(0, None)])?;
     assert!(rt;
         trial
-            .compare(&plan_of(&tasks)?, &Priority, &pair, 0)?
+            .compare(&rt, &plan_of(&tasks)?, &Priority, &pair, 0)?
             .is_none()
     );
     let PeerOutcome::Late { task, cause, shown } = pair.peer.slot(trial.heap, 0)? else {

@@ -8,6 +8,7 @@ use dispatch::Dispatch;
 use schedule::Schedule;
 use std::alloc::Global;
 use std::collections::BTreeMap;
+use std::process::Abort;
 use std::test::*;
 
 // How many records were taken, how many damaged ones were true all the same, and how often each refusal was seen, by its number.
@@ -24,18 +25,18 @@ impl Offers {
     // Evidence for a plan that is never late.
     pub(crate) fn all<D: Dispatch>(
         &mut self,
+        rt: &impl Abort,
         schedule: &Schedule<Streams, D>,
         side: &Side,
     ) -> Result<(), Fail> {
         let eager = self.draw.below(90);
         let records = evidence(self.heap, schedule, &mut self.draw, eager)?;
         let states = side.reached.states();
-        self.whole(schedule, side, &records).note("whole")?;
-        self.part(schedule, side, &records).note("in part")?;
-        self.damaged(schedule, side, &records).note("damaged")?;
+        self.whole(rt, schedule, side, &records)?;
+        self.part(rt, schedule, side, &records)?;
+        self.damaged(rt, schedule, side, &records)?;
         if states > 1 {
-            self.too_few(schedule, states - 1, &records)
-                .note("too few rows")?;
+            self.too_few(rt, schedule, states - 1, &records)?;
         }
         Ok(())
     }
@@ -59,17 +60,18 @@ impl Offers {
     // All of it makes the table complete, and nothing can be taken then.
     fn whole<D: Dispatch>(
         &mut self,
+        rt: &impl Abort,
         schedule: &Schedule<Streams, D>,
         side: &Side,
         records: &[[u8; 16]],
     ) -> Result<(), Fail> {
         let mut kept = self.taken(schedule, side.reached.states(), records, records.len())?;
-        side.complete(&kept)?;
+        side.complete(rt, &kept)?;
         let Some(bytes) = records.first() else {
             return Err(Fail::new("no records"));
         };
-        assert_eq!(
-            self.offer(schedule, &mut kept, bytes)?,
+        assert_eq!(rt;
+            self.offer(rt, schedule, &mut kept, bytes)?,
             Some(11),
             "taken after the end"
         );
@@ -79,6 +81,7 @@ impl Offers {
     // The first records, and then steps.
     fn part<D: Dispatch>(
         &mut self,
+        rt: &impl Abort,
         schedule: &Schedule<Streams, D>,
         side: &Side,
         records: &[[u8; 16]],
@@ -86,12 +89,13 @@ impl Offers {
         let count = self.draw.below(u32::try_from(records.len())?) as usize;
         let mut kept = self.taken(schedule, side.reached.states(), records, count)?;
         kept.finish(schedule)?;
-        side.complete(&kept)
+        side.complete(rt, &kept)
     }
 
     // Before one record in four comes a damaged one. If that is true all the same, steps go on from there.
     fn damaged<D: Dispatch>(
         &mut self,
+        rt: &impl Abort,
         schedule: &Schedule<Streams, D>,
         side: &Side,
         records: &[[u8; 16]],
@@ -102,8 +106,8 @@ impl Offers {
         for (i, bytes) in records.iter().enumerate() {
             if self.draw.below(4) == 0 {
                 let other = self.damage(bytes, records)?;
-                if self.offer(schedule, &mut kept, &other)?.is_none() {
-                    assert!(may_be_true(&other, records, i), "taken");
+                if self.offer(rt, schedule, &mut kept, &other)?.is_none() {
+                    assert!(rt; may_be_true(&other, records, i), "taken");
                     self.accepted = self.accepted.saturating_add(1);
                     break;
                 }
@@ -111,7 +115,7 @@ impl Offers {
             kept.take(schedule, bytes)?;
         }
         kept.finish(schedule)?;
-        side.complete(&kept)
+        side.complete(rt, &kept)
     }
 
     // A record with one byte changed, or cut short, or with a byte more, or another record.
@@ -146,15 +150,16 @@ impl Offers {
     // With one row fewer than states, the evidence is taken up to the first record that finds no row.
     fn too_few<D: Dispatch>(
         &mut self,
+        rt: &impl Abort,
         schedule: &Schedule<Streams, D>,
         size: usize,
         records: &[[u8; 16]],
     ) -> Result<(), Fail> {
         let mut kept = Kept::new(self.heap, schedule, size)?;
         for bytes in records {
-            if let Some(number) = self.offer(schedule, &mut kept, bytes)? {
-                assert_eq!(usize::from(kept.table.numbers().held), size);
-                assert_eq!(number, 16);
+            if let Some(number) = self.offer(rt, schedule, &mut kept, bytes)? {
+                assert_eq!(rt; usize::from(kept.table.numbers().held), size);
+                assert_eq!(rt; number, 16);
                 return Ok(());
             }
         }
@@ -164,6 +169,7 @@ impl Offers {
     // The number of the refusal, if the bytes are refused. The table and its rows are then as before.
     fn offer<D: Dispatch>(
         &mut self,
+        rt: &impl Abort,
         schedule: &Schedule<Streams, D>,
         kept: &mut Kept,
         bytes: &[u8],
@@ -172,9 +178,10 @@ impl Offers {
         let Err(fault) = kept.take(schedule, bytes) else {
             return Ok(None);
         };
-        before.same(kept).note("changed by a refusal")?;
+        // A refusal changes nothing.
+        before.same(rt, kept);
         let number = fault.refusal.number();
-        assert!(fits(bytes, number), "refusal {number}");
+        assert!(rt; fits(bytes, number), "refusal {number}");
         let times = self.refused.entry(number)?.or_insert(0);
         *times = times.saturating_add(1);
         Ok(Some(number))
@@ -192,7 +199,7 @@ fn may_be_true(bytes: &[u8], records: &[[u8; 16]], next: usize) -> bool {
     }
     for walk in records.iter().skip(next) {
         if begins(walk, b'W') {
-            return bytes == walk;
+            return bytes == walk.as_slice();
         }
     }
     false

@@ -98,7 +98,7 @@ impl Rule {
         for job in jobs {
             places.push(job.place(self, ran))?;
         }
-        places.sort();
+        places.sort()?;
         match places.get(0) {
             Some(place) => Ok(Some(place.task)),
             None => Ok(None),

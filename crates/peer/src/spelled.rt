@@ -7,6 +7,7 @@ use crate::scheduler::Peer;
 use crate::shown::{Done, PeerCause, PeerOutcome};
 use exploration::{Shown, Stage};
 use std::alloc::Global;
+use std::process::Abort;
 use std::test::*;
 
 // The peer at the start of a plan of so many tasks, and what it reaches.
@@ -39,37 +40,48 @@ impl Side {
     }
 
     // The table is complete, and tells what the peer does.
-    pub(crate) fn complete(&self, kept: &Kept) -> Result<(), Fail> {
+    pub(crate) fn complete(&self, rt: &impl Abort, kept: &Kept) -> Result<(), Fail> {
         let numbers = kept.table.numbers();
-        assert_eq!(numbers.stage, Stage::Complete);
-        assert_eq!(usize::from(numbers.held), self.reached.states(), "states");
-        assert_eq!(numbers.walked, self.reached.ways, "ways");
+        assert_eq!(rt; numbers.stage, Stage::Complete);
+        assert_eq!(rt; usize::from(numbers.held), self.reached.states(), "states");
+        assert_eq!(rt; numbers.walked, self.reached.ways, "ways");
         for i in 0..self.tasks {
-            let times = self.times(kept, i + 1)?;
+            let times = self.times(rt, kept, i + 1)?;
             match self.reached.span(i + 1) {
-                Some(span) => assert_eq!(times, (Some(span.least), Some(span.greatest))),
-                None => assert_eq!(times, (None, None)),
+                Some(span) => assert_eq!(rt; times, (Some(span.least), Some(span.greatest))),
+                None => assert_eq!(rt; times, (None, None)),
             }
         }
         Ok(())
     }
 
     // The times of a task.
-    fn times(&self, kept: &Kept, task: u8) -> Result<(Option<u32>, Option<u32>), Fail> {
+    fn times(
+        &self,
+        rt: &impl Abort,
+        kept: &Kept,
+        task: u8,
+    ) -> Result<(Option<u32>, Option<u32>), Fail> {
         let times = kept.table.times(task)?;
-        let least = self.response(kept, task, times.least)?;
-        let greatest = self.response(kept, task, times.greatest)?;
+        let least = self.response(rt, kept, task, times.least)?;
+        let greatest = self.response(rt, kept, task, times.greatest)?;
         Ok((least, greatest))
     }
 
     // The response shown, which the peer has at the end of the run that is spelled out for it.
-    fn response(&self, kept: &Kept, task: u8, time: Option<Shown>) -> Result<Option<u32>, Fail> {
+    fn response(
+        &self,
+        rt: &impl Abort,
+        kept: &Kept,
+        task: u8,
+        time: Option<Shown>,
+    ) -> Result<Option<u32>, Fail> {
         let Some(time) = time else {
             return Ok(None);
         };
         let response = u32::from(time.response);
-        let last = self.last_slot(kept, time.row, time.way)?;
-        assert_eq!(
+        let last = self.last_slot(rt, kept, time.row, time.way)?;
+        assert_eq!(rt;
             last.ended(),
             Some(Done { task, response }),
             "the run of a time"
@@ -78,7 +90,7 @@ impl Side {
     }
 
     // The table is late, and so is the peer in the run that is spelled out.
-    pub(crate) fn late(&self, kept: &Kept) -> Result<PeerCause, Fail> {
+    pub(crate) fn late(&self, rt: &impl Abort, kept: &Kept) -> Result<PeerCause, Fail> {
         let Stage::Late {
             row,
             way,
@@ -92,20 +104,26 @@ impl Side {
             task: named,
             cause: why,
             ..
-        } = self.last_slot(kept, row, way)?
+        } = self.last_slot(rt, kept, row, way)?
         else {
             return Err(Fail::new("the run of a late table is not late"));
         };
-        assert_eq!((task, cause_of(cause)), (named, why));
+        assert_eq!(rt; (task, cause_of(cause)), (named, why));
         for i in 0..self.tasks {
-            self.times(kept, i + 1)?;
+            self.times(rt, kept, i + 1)?;
         }
         Ok(why)
     }
 
     // The last slot of the run that a row and a way spell out.
-    fn last_slot(&self, kept: &Kept, row: u16, way: u32) -> Result<PeerOutcome, Fail> {
-        let ways = spelled(self.heap, kept, row)?;
+    fn last_slot(
+        &self,
+        rt: &impl Abort,
+        kept: &Kept,
+        row: u16,
+        way: u32,
+    ) -> Result<PeerOutcome, Fail> {
+        let ways = spelled(rt, self.heap, kept, row)?;
         let mut peer = self.start.clone()?;
         for way in ways.iter().rev() {
             let PeerOutcome::Next { peer: after, .. } = peer.slot(self.heap, *way)? else {
@@ -118,13 +136,13 @@ impl Side {
 }
 
 // The ways by which origins lead from a row back to row 1.
-fn spelled(heap: Global, kept: &Kept, row: u16) -> Result<Vec<u32>, Fail> {
+fn spelled(rt: &impl Abort, heap: Global, kept: &Kept, row: u16) -> Result<Vec<u32>, Fail> {
     let mut ways = Vec::new(heap);
     let mut at = row;
     for _ in 0..kept.rows.len() {
         let (origin, way) = kept.table.origin(&kept.rows, u32::from(at))?;
         if origin == 0 {
-            assert_eq!((at, way), (1, 0), "where the origins end");
+            assert_eq!(rt; (at, way), (1, 0), "where the origins end");
             return Ok(ways);
         }
         ways.push(way)?;
