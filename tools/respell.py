@@ -11,7 +11,7 @@ import re
 import sys
 
 TOKEN = re.compile(r"[^\s(){}\[\];,.`\"|]+")
-NAME = re.compile(r"^[^\W\d][\w']*(?:-[\w']+)+$")
+NAME = re.compile(r"^(?:[^\W\d][\w']*(?:-[\w']+)+|[A-Z][a-z]\w*_[\w']*)$")
 
 
 def read(path):
@@ -57,7 +57,7 @@ def defined(path, text):
 
 
 def respelled(name):
-    words = name.split("-")
+    words = re.split("[-_]", name) if name[0].isupper() else name.split("-")
     if name[0].isupper():
         return "".join(w[0].upper() + w[1:] for w in words)
     return "_".join(words)

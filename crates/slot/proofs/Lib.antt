@@ -2,4 +2,3 @@ pub mod Lists
 pub mod Rounds
 pub mod Bounds
 pub mod Few
-mod Same
