@@ -23,7 +23,7 @@ def paths():
     antt = sorted(glob.glob("crates/*/specs/**/*.antt", recursive=True) + glob.glob("crates/*/proofs/**/*.antt", recursive=True))
     rt = sorted(glob.glob("crates/*/src/**/*.rt", recursive=True))
     edits = sorted(glob.glob("crates/*/must-fail/*.edit"))
-    pages = sorted(glob.glob("docs/*.md") + glob.glob("*.md") + glob.glob("host/*.md"))
+    pages = sorted(set(glob.glob("docs/*.md") + glob.glob("*.md") + glob.glob("host/*.md")) - {"docs/PORT.md"})
     return antt, rt, edits, pages
 
 
