@@ -2,3 +2,4 @@ pub mod Lists
 pub mod Rounds
 pub mod Bounds
 pub mod Few
+mod Sameness

@@ -2,4 +2,4 @@ pub mod Bounded
 pub mod Arrivals
 pub mod Work
 pub mod Slot
-pub mod Equal
+pub mod Same
