@@ -1,5 +1,5 @@
 // What the arguments ask for.
-ghost use Rattle.std.specs.Prelude.{◌≡◌, ◌≤◌};
+ghost use Rattle.std.specs.Prelude.{◌≤◌, IfOk};
 
 use anyhow::anyhow;
 use rules::{NAMES, Rule, named};
@@ -10,10 +10,13 @@ use std::env;
 pub struct Options {
     pub rule: Rule,
     pub rows: u16,
+    ghost some: { 1 ≤ rows },
 }
 
 // A number of rows: 1 to 65,535.
-fn rows_in(rt: &HostRuntime, word: &str) -> anyhow::Result<u16> {
+fn rows_in(rt: &HostRuntime, word: &str) -> anyhow::Result<u16>
+    ensures { IfOk result (λ rows. 1 ≤ rows) }
+{
     match word.parse::<u16>() {
         Ok(rows) if rows > 0 => Ok(rows),
         _ => Err(anyhow!(format!(in rt.alloc(); "rows={word}: 1 to 65535 rows")?)),
