@@ -3,8 +3,9 @@ ghost use Rattle.std.specs.Prelude.{◌≡◌, ℕ, ◌&&◌, ◌||◌, is_some,
 ghost use Rattle.dispatch.specs.declared.Seen.{Seen};
 ghost use Rattle.dispatch.specs.Picks.{greatest};
 ghost use Rattle.dispatch.specs.Order.{Before, FirstJob, key_of};
+ghost use Rattle.dispatch.specs.Jobs.{greatest_conserves};
 
-use crate::Seen;
+use crate::{Dispatch, Seen};
 
 // What a rule compares tasks by.
 pub trait Keyed {
@@ -14,8 +15,22 @@ pub trait Keyed {
         ensures { result ≡ key self.now task.now };
 }
 
+// A key makes a rule: the first job under the order by the key, or 0.
+impl<K: Keyed> Dispatch for K {
+    ghost picks = { λ k. greatest (K.Keyed.key k) };
+
+    ghost conserves = { λ k. greatest_conserves (K.Keyed.key k) };
+
+    fn pick(&self, tasks: &[Seen], last: usize) -> usize
+        ensures value { result ≡ greatest (K.Keyed.key self.now) tasks.now last }
+        ensures first { FirstJob (Before (key_of (K.Keyed.key self.now) tasks.now)) tasks.now result }
+    {
+        first_job(self, tasks)
+    }
+}
+
 // The first job under the order by the rule's key, or 0.
-pub fn first_job<K: Keyed>(rule: &K, tasks: &[Seen]) -> usize
+fn first_job<K: Keyed>(rule: &K, tasks: &[Seen]) -> usize
     ensures value { result ≡ greatest (K.Keyed.key rule.now) tasks.now 0 }
     ensures first { FirstJob (Before (key_of (K.Keyed.key rule.now) tasks.now)) tasks.now result }
 {

@@ -29,11 +29,9 @@ impl<R: Dispatch> Dispatch for Keeping<R> {
 }
 
 // Whether the last runner has a job.
+#[tactic(auto, using(crate::specs::Jobs::has_job_at, crate::specs::Jobs::job_read, crate::specs::Jobs::job_past))]
 fn stays(tasks: &[Seen], last: usize) -> bool
     ensures { result ≡ has_job tasks.now last }
 {
-    if last == 0 || last > tasks.len() {
-        return false;
-    }
-    tasks[last - 1].age.is_some()
+    last > 0 && tasks.get(last - 1).is_some_and(|task| task.age.is_some())
 }

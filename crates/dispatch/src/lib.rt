@@ -17,6 +17,7 @@ pub struct Seen {
 }
 
 // A dispatch rule. Its meaning is the task that it picks, numbered from 1, or 0 for none.
+// No Option: the rules give 'no task' the number 0, and the laws over runs, the state's last runner and the event's pick say it so.
 pub trait Dispatch {
     ghost picks: { Self → Picks };
 

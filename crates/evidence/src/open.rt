@@ -20,10 +20,7 @@ pub fn open<S: Stream, D: Dispatch>(
     ensures { PlanOpened state_view (plan_system (task_views S.Stream.meaning schedule.now.plan.tasks) (D.Dispatch.picks schedule.now.rule)) result rows.old rows.new }
 {
     if schedule.plan.count() == 0 {
-        return Err(Fault {
-            refusal: Refusal::PlanEmpty,
-            at: (0, 0),
-        });
+        return Err(Refusal::PlanEmpty.into());
     }
     Table::open(schedule, rows)
 }

@@ -1,4 +1,6 @@
 // Reading a table that is kept for a system in these rows.
+#![tactic(auto, using(crate::proofs::Law::kept_law))]
+
 ghost use Rattle.std.specs.Prelude.{◌≡◌};
 ghost use Rattle.table.specs.Readings.{times_read, origin_read};
 ghost use Rattle.evidence.specs.Opening.{ReadsKept};

@@ -1,56 +1,62 @@
-// Reading files of a limited size into a place.
+// Reading files up to a limit.
 #![tactic(auto)]
 
-ghost use Rattle.std.specs.Prelude.{◌≤◌, length, IfOk};
+ghost use Rattle.std.specs.Prelude.{◌≤◌, vec_len, IfOk};
 
 use anyhow::anyhow;
 use std::fs::File;
 use std::io;
 use std::io::{ErrorKind, Read};
 
-// Reads a file into the place until it is full or the file ends.
-pub fn fill(rt: &HostRuntime, path: &str, place: &mut [u8]) -> io::Result<usize>
-    ensures { IfOk result (λ n. n ≤ length place.old) }
+// The first bytes of a file, as many as there are, and no more than the limit.
+pub fn front(rt: &HostRuntime, path: &str, limit: usize) -> io::Result<Vec<u8>>
+    ensures { IfOk result (λ bytes. vec_len bytes ≤ limit) }
 {
-    let mut file = File::open(rt, path)?;
-    let mut at = 0;
-    while at < place.len() {
-        let n = file.read(&mut place[at..])?;
-        if n == 0 {
-            break;
-        }
-        at += n;
-    }
-    Ok(at)
+    let mut bytes = Vec::new(rt.alloc());
+    File::open(rt, path)?
+        .take(limit as u64)
+        .read_to_end(&mut bytes)?;
+    // No clause of `read_to_end` tells how much a file gives, so the limit is kept here.
+    bytes.truncate(limit);
+    Ok(bytes)
 }
 
-// An error with the name of its file.
-fn named(path: &str, error: io::Error) -> anyhow::Error {
-    anyhow!("{path}: {error}")
-}
-
-// The first bytes of a file, as many as there are or the place holds.
-pub fn read(rt: &HostRuntime, path: &str, place: &mut [u8]) -> anyhow::Result<usize>
-    ensures { IfOk result (λ n. n ≤ length place.old) }
+// The same, for a program: an error has the name of its file.
+pub fn read(rt: &HostRuntime, path: &str, limit: usize) -> anyhow::Result<Vec<u8>>
+    ensures { IfOk result (λ bytes. vec_len bytes ≤ limit) }
 {
-    match fill(rt, path, place) {
-        Ok(n) => Ok(n),
-        Err(error) => Err(named(path, error)),
-    }
+    front(rt, path, limit).map_err(|error| anyhow!("{path}: {error}"))
 }
 
 // The same, where a file that is absent is empty.
-pub fn read_if_present(rt: &HostRuntime, path: &str, place: &mut [u8]) -> anyhow::Result<usize>
-    ensures { IfOk result (λ n. n ≤ length place.old) }
+pub fn read_if_present(rt: &HostRuntime, path: &str, limit: usize) -> anyhow::Result<Vec<u8>>
+    ensures { IfOk result (λ bytes. vec_len bytes ≤ limit) }
 {
-    match fill(rt, path, place) {
-        Ok(n) => Ok(n),
-        Err(error) => {
-            if error.kind() == ErrorKind::NotFound {
-                Ok(0)
-            } else {
-                Err(named(path, error))
-            }
-        }
+    match front(rt, path, limit) {
+        Err(error) if error.kind() == ErrorKind::NotFound => Ok(Vec::new(rt.alloc())),
+        bytes => bytes.map_err(|error| anyhow!("{path}: {error}")),
+    }
+}
+
+#[cfg(test)]
+mod tests {
+    use super::{read, read_if_present};
+    use std::fs;
+
+    // A file of five bytes, read up to three and up to nine, and one that is absent.
+    #[test]
+    fn bytes_up_to_the_limit(rt: HostRuntime) -> anyhow::Result<()> {
+        fs::write(&rt, "five.bin", &[1, 2, 3, 4, 5])?;
+        let three = read(&rt, "five.bin", 3)?;
+        let five = read(&rt, "five.bin", 9)?;
+        let there = read_if_present(&rt, "five.bin", 4)?;
+        let absent = read_if_present(&rt, "absent.bin", 9)?;
+        fs::remove_file(&rt, "five.bin")?;
+        assert!(rt; three.as_slice() == [1, 2, 3].as_slice());
+        assert!(rt; five.as_slice() == [1, 2, 3, 4, 5].as_slice());
+        assert!(rt; there.as_slice() == [1, 2, 3, 4].as_slice());
+        assert!(rt; absent.is_empty());
+        assert!(rt; read(&rt, "absent.bin", 9).is_err());
+        Ok(())
     }
 }

@@ -1,6 +1,7 @@
 mod Puts
+mod TaskLines
+mod MapErr
 mod Finishing
 mod Records
 mod Stepping
 mod Opened
-mod Listed

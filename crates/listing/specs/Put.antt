@@ -1,7 +1,20 @@
--- Bytes put into a place from an offset on.
-use Rattle.std.specs.Prelude.{◌≡◌, ℕ, ◌+◌, List, ◌++◌, length, take, drop}
+-- Text put onto a page.
+use Rattle.std.specs.Prelude.{◌≡◌, ℕ, ◌+◌, ◌-◌, List, ◌++◌, length, take, drop}
+use Rattle.listing.specs.declared.page.Page.{Page}
 
--- The bytes stand from the offset on, up to the end that is answered; the rest of the place is as it was.
-pub record Put (bytes : List ℕ) (at end : ℕ) (before after : List ℕ) : Type 0 where
-  pub ends : end ≡ at + length bytes
-  pub place : after ≡ take at before ++ (bytes ++ drop (at + length bytes) before)
+-- What is written, what the place holds after it, and how many bytes that is.
+abbrev pub written : Page → List ℕ
+written page = take page.at page.place.now
+
+abbrev pub rest : Page → List ℕ
+rest page = drop page.at page.place.now
+
+abbrev pub room : Page → ℕ
+room page = length page.place.now - page.at
+
+-- The bytes stand after what was written before; the rest of the place is as it was.
+pub record Put (bytes : List ℕ) (before after : Page) : Type 0 where
+  pub written : written after ≡ written before ++ bytes
+  pub rest : rest after ≡ drop (length bytes) (rest before)
+  pub room : room before ≡ room after + length bytes
+  pub same : after.place.ghost_name ≡ before.place.ghost_name

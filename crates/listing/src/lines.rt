@@ -1,10 +1,11 @@
-// The lines of a listing, written into a place.
-ghost use Rattle.std.specs.Prelude.{◌≡◌, ◌+◌, ◌≤◌, [], ◌∷◌, ◌++◌, length, decimal};
+// The lines of a listing, written onto a page.
+ghost use Rattle.std.specs.Prelude.{◌≡◌, ◌+◌, ◌≤◌, [], ◌∷◌, ◌++◌, length};
 ghost use Rattle.table.specs.View.{table_of, times_of};
-ghost use Rattle.listing.specs.Put.{Put};
-ghost use Rattle.listing.specs.Lines.{time_field, task_line, task_lines, stage_field, stage_line, table_lines, refused_line, halt_lines, line};
+ghost use Rattle.listing.specs.Put.{Put, room};
+ghost use Rattle.listing.specs.Bringing.{halt_of};
+ghost use Rattle.listing.specs.Lines.{time_field, task_line, task_lines, stage_field, stage_line, table_lines, refused_line, halt_lines};
 
-use crate::page::{put_number, put_word};
+use crate::page::Page;
 use crate::part::Halt;
 use exploration::{Shown, Stage, Times};
 use table::table::Table;
@@ -13,30 +14,7 @@ const SPACE: u8 = b' ';
 
 const END: u8 = b'\n';
 
-// A response time as a field, - for none.
-fn put_time(place: &mut [u8], at: usize, time: Option<Shown>, end: u8) -> usize
-    requires { at + 6 ≤ length place.old }
-    ensures put { Put (time_field time ++ (end ∷ [])) at result place.old place.new }
-    ensures within { result ≤ at + 6 }
-{
-    match time {
-        Some(shown) => put_number(place, at, shown.response as u64, end),
-        None => put_word(place, at, b"-", end),
-    }
-}
-
-// The line of a task: its number, its least and its greatest response time.
-fn put_task(place: &mut [u8], at: usize, task: u8, times: Times) -> usize
-    requires { at + 16 ≤ length place.old }
-    ensures put { Put (task_line task times) at result place.old place.new }
-    ensures within { result ≤ at + 16 }
-{
-    let at = put_number(place, at, task as u64, SPACE);
-    let at = put_time(place, at, times.least, SPACE);
-    put_time(place, at, times.greatest, END)
-}
-
-// The stage in a word.
+// The stage in a word. No Display: the box's code does without core::fmt.
 fn name(stage: Stage) -> &'static [u8]
     ensures value { result.now ≡ stage_field stage }
     ensures short { length result.now ≤ 8 }
@@ -48,77 +26,97 @@ fn name(stage: Stage) -> &'static [u8]
     }
 }
 
-// The line of a stage: the rows held and the ways walked; a late table adds the task and the cause.
-fn put_stage(place: &mut [u8], at: usize, stage: Stage, held: u16, walked: u64) -> usize
-    requires { at + 48 ≤ length place.old }
-    ensures put { Put (stage_line stage held walked) at result place.old place.new }
-    ensures within { result ≤ at + 48 }
-{
-    let at = put_word(place, at, name(stage), SPACE);
-    let at = put_number(place, at, held as u64, SPACE);
-    let Stage::Late { task, cause, .. } = stage else {
-        return put_number(place, at, walked, END);
-    };
-    let at = put_number(place, at, walked, SPACE);
-    let at = put_number(place, at, task as u64, SPACE);
-    put_word(place, at, &[cause.letter() as u8], END)
-}
-
-// The lines of so many tasks, from the first.
-fn put_tasks(place: &mut [u8], tasks: u8, times: &[Times; 8]) -> usize
-    requires { (128 ≤ length place.old) × ((tasks ≤ 8) × (length times.now ≡ 8)) }
-    ensures put { Put (task_lines (times_of times.now) tasks) 0 result place.old place.new }
-    ensures within { result ≤ 128 }
-{
-    let mut at = 0;
-    for i in 0..tasks {
-        at = put_task(place, at, i + 1, times[i as usize]);
+impl Page<'_> {
+    // A response time as a field, - for none. Inlined, the exported call has more code.
+    #[inline(never)]
+    #[tactic(auto, using(crate::proofs::Puts::digits))]
+    fn put_time(&mut self, time: Option<Shown>, end: u8)
+        requires { 6 ≤ room self.old }
+        ensures put { Put (time_field time ++ (end ∷ [])) self.old self.new }
+        ensures within { room self.old ≤ room self.new + 6 }
+    {
+        match time {
+            Some(shown) => self.put_number(shown.response as u64, end),
+            None => self.put_word(b"-", end),
+        }
     }
-    at
-}
 
-// The lines of a table: a line for each task, and the line of its stage.
-pub fn put_table(place: &mut [u8], table: &Table) -> usize
-    requires { 176 ≤ length place.old }
-    ensures put { Put (table_lines (table_of table.now.numbers)) 0 result place.old place.new }
-    ensures within { result ≤ 176 }
-{
-    let numbers = table.numbers();
-    let at = put_tasks(place, numbers.tasks, &numbers.times);
-    put_stage(place, at, numbers.stage, numbers.held, numbers.walked)
-}
+    // The line of a task: its number, its least and its greatest response time.
+    #[tactic(auto, using(crate::proofs::Puts::digits))]
+    fn put_task(&mut self, task: u8, times: Times)
+        requires { 16 ≤ room self.old }
+        ensures put { Put (task_line task times) self.old self.new }
+        ensures within { room self.old ≤ room self.new + 16 }
+    {
+        self.put_number(task as u64, SPACE);
+        self.put_time(times.least, SPACE);
+        self.put_time(times.greatest, END);
+    }
 
-// The rest of a refusal's line: its number and its two places.
-fn put_places(place: &mut [u8], at: usize, number: u8, first: u32, second: u32) -> usize
-    requires { at + 26 ≤ length place.old }
-    ensures put { Put (line (decimal number) (decimal first ∷ decimal second ∷ [])) at result place.old place.new }
-    ensures within { result ≤ at + 26 }
-{
-    let at = put_number(place, at, number as u64, SPACE);
-    let at = put_number(place, at, first as u64, SPACE);
-    put_number(place, at, second as u64, END)
-}
+    // The lines of tasks, from the first.
+    fn put_tasks(&mut self, times: &[Times])
+        requires { (128 ≤ room self.old) × (length times.now ≤ 8) }
+        ensures put { Put (task_lines (times_of times.now) (length times.now)) self.old self.new }
+        ensures within { room self.old ≤ room self.new + 128 }
+    {
+        for (i, of_task) in times.iter().enumerate() {
+            self.put_task(i as u8 + 1, *of_task);
+        }
+    }
 
-// The line of a refusal: what it ended, its number and its two places.
-fn put_halt(place: &mut [u8], at: usize, halt: Halt) -> usize
-    requires { at + 36 ≤ length place.old }
-    ensures put { Put (refused_line halt) at result place.old place.new }
-    ensures within { result ≤ at + 36 }
-{
-    let Halt { part, fault } = halt;
-    let at = put_word(place, at, b"refused", SPACE);
-    let at = put_word(place, at, &[part.letter()], SPACE);
-    put_places(place, at, fault.refusal.number(), fault.at.0, fault.at.1)
-}
+    // The line of a stage: the rows held and the ways walked; a late table adds the task and the cause.
+    #[tactic(auto, using(crate::proofs::Puts::digits))]
+    fn put_stage(&mut self, stage: Stage, held: u16, walked: u64)
+        requires { 48 ≤ room self.old }
+        ensures put { Put (stage_line stage held walked) self.old self.new }
+        ensures within { room self.old ≤ room self.new + 48 }
+    {
+        self.put_word(name(stage), SPACE);
+        self.put_number(held as u64, SPACE);
+        match stage {
+            Stage::Walking | Stage::Complete => self.put_number(walked, END),
+            Stage::Late { task, cause, .. } => {
+                self.put_number(walked, SPACE);
+                self.put_number(task as u64, SPACE);
+                self.put_word(&[cause.letter() as u8], END);
+            }
+        }
+    }
 
-// The line of the refusal that ended the work, if one did.
-pub fn put_ending(place: &mut [u8], at: usize, halt: Option<Halt>) -> usize
-    requires { at + 36 ≤ length place.old }
-    ensures put { Put (halt_lines halt) at result place.old place.new }
-    ensures within { result ≤ at + 36 }
-{
-    match halt {
-        Some(halt) => put_halt(place, at, halt),
-        None => at,
+    // The lines of a table: a line for each task, and the line of its stage.
+    pub fn put_table(&mut self, table: &Table)
+        requires { 176 ≤ room self.old }
+        ensures put { Put (table_lines (table_of table.now.numbers)) self.old self.new }
+        ensures within { room self.old ≤ room self.new + 176 }
+    {
+        let numbers = table.numbers();
+        self.put_tasks(&numbers.times[..numbers.tasks as usize]);
+        self.put_stage(numbers.stage, numbers.held, numbers.walked);
+    }
+
+    // The line of a refusal: what it ended, its number and its two places.
+    #[tactic(auto, using(crate::proofs::Puts::digits))]
+    fn put_halt(&mut self, halt: Halt)
+        requires { 36 ≤ room self.old }
+        ensures put { Put (refused_line halt) self.old self.new }
+        ensures within { room self.old ≤ room self.new + 36 }
+    {
+        let Halt { part, fault } = halt;
+        self.put_word(b"refused", SPACE);
+        self.put_word(&[part.letter()], SPACE);
+        self.put_number(fault.refusal.number() as u64, SPACE);
+        self.put_number(fault.at.0 as u64, SPACE);
+        self.put_number(fault.at.1 as u64, END);
+    }
+
+    // The line of the refusal that ended the work, if one did.
+    pub fn put_ending(&mut self, ended: Result<(), Halt>)
+        requires { 36 ≤ room self.old }
+        ensures put { Put (halt_lines (halt_of ended)) self.old self.new }
+        ensures within { room self.old ≤ room self.new + 36 }
+    {
+        if let Err(halt) = ended {
+            self.put_halt(halt);
+        }
     }
 }

@@ -4,12 +4,12 @@ ghost use Rattle.listing.specs.Parts.{part_letter};
 
 use refusals::Fault;
 
-// Reading the plan and opening the table, taking evidence, or stepping.
+// Reading the plan and opening the table, taking evidence, or stepping; each by its letter.
 #[derive(Clone, Copy, PartialEq, Eq, Debug)]
 pub enum Part {
-    Plan,
-    Evidence,
-    Steps,
+    Plan = b'P' as isize,
+    Evidence = b'E' as isize,
+    Steps = b'S' as isize,
 }
 
 // The refusal that ended it, and what it was doing.
@@ -24,10 +24,13 @@ impl Part {
     pub fn letter(self) -> u8
         ensures { result ≡ part_letter self }
     {
-        match self {
-            Part::Plan => b'P',
-            Part::Evidence => b'E',
-            Part::Steps => b'S',
-        }
+        self as u8
+    }
+
+    // A refusal that ended the listing here.
+    pub fn halts(self, fault: Fault) -> Halt
+        ensures { result ≡ record { part = self; fault = fault } }
+    {
+        Halt { part: self, fault }
     }
 }

@@ -1,14 +1,11 @@
 // Runs of both schedulers side by side, compared slot by slot.
 use crate::draw::Draw;
-use crate::library::{Streams, cause_of, done_of, plan_of, work_and_age};
-use crate::order::{Numbers, Rule};
+use crate::library::{Streams, plan_of, work_and_age};
+use crate::order::{Numbers, RULES};
 use crate::scheduler::Peer;
-use crate::shown::{PeerCause, PeerOutcome, Shown};
+use crate::shown::{Done, Lates, PeerOutcome, Shown};
 use dispatch::Dispatch;
-use dispatch::keeping::Keeping;
-use dispatch::priority::Priority;
-use dispatch::waiting::Waiting;
-use outcome::Outcome;
+use outcome::{Cause, Outcome};
 use plans::plan::Plan;
 use slot::event::Event;
 use slot::state::State;
@@ -20,12 +17,11 @@ use streams::Stream;
 
 // How often each thing was seen: ways that are not void, void ones, late ones by cause, jobs that ended, and jobs that stayed
 // by choice.
-#[derive(Clone, Copy)]
+#[derive(Clone, Copy, Default)]
 pub struct Tally {
     pub slots: u32,
     pub void: u32,
-    pub overlap: u32,
-    pub deadline: u32,
+    pub late: Lates,
     pub ended: u32,
     pub stayed: u32,
 }
@@ -47,13 +43,6 @@ pub struct Trial {
 }
 
 impl Tally {
-    fn late(&mut self, cause: PeerCause) {
-        match cause {
-            PeerCause::Overlap => self.overlap = self.overlap.saturating_add(1),
-            PeerCause::Deadline => self.deadline = self.deadline.saturating_add(1),
-        }
-    }
-
     // A slot that is not void.
     fn seen(&mut self, shown: &Shown, stay: bool) {
         self.slots = self.slots.saturating_add(1);
@@ -72,14 +61,7 @@ impl Trial {
             heap,
             draw: Draw { last },
             quiet,
-            tally: Tally {
-                slots: 0,
-                void: 0,
-                overlap: 0,
-                deadline: 0,
-                ended: 0,
-                stayed: 0,
-            },
+            tally: Tally::default(),
         }
     }
 
@@ -98,11 +80,11 @@ impl Trial {
         match walk::walk(plan, rule, &pair.state, way) {
             Outcome::Void => self.void(other),
             Outcome::Late { task, cause, ended } => {
-                assert_eq!(rt; done_of(ended), done_of(event.ended), "ended");
-                self.late(rt, task, cause_of(cause), &event, other, stay)
+                assert_eq!(rt; ended, event.ended, "ended");
+                self.late(rt, task, cause, &event, other, stay)
             }
             Outcome::Next { state, ended } => {
-                assert_eq!(rt; done_of(ended), done_of(event.ended), "ended");
+                assert_eq!(rt; ended, event.ended, "ended");
                 self.next(rt, state, &event, other, stay)
             }
         }
@@ -122,7 +104,7 @@ impl Trial {
         &mut self,
         rt: &impl Abort,
         task: u8,
-        cause: PeerCause,
+        cause: Cause,
         event: &Event,
         other: PeerOutcome,
         stay: bool,
@@ -138,7 +120,7 @@ impl Trial {
         assert_eq!(rt; task, named, "late task");
         assert_eq!(rt; cause, why, "cause");
         same_event(rt, event, &shown);
-        self.tally.late(why);
+        self.tally.late.count(why);
         self.tally.seen(&shown, stay);
         Ok(None)
     }
@@ -225,24 +207,19 @@ impl Trial {
     ) -> Result<(), Fail> {
         let plan = plan_of(tasks)?;
         let heap = self.heap;
-        let peer = Peer::new(heap, Rule::Priority, tasks)?;
-        self.run(rt, &plan, &Priority, peer, slots)?;
-        let peer = Peer::new(heap, Rule::Waiting, tasks)?;
-        self.run(rt, &plan, &Waiting, peer, slots)?;
-        let peer = Peer::new(heap, Rule::KeepingPriority, tasks)?;
-        self.run(rt, &plan, &Keeping { below: Priority }, peer, slots)?;
-        let peer = Peer::new(heap, Rule::KeepingWaiting, tasks)?;
-        self.run(rt, &plan, &Keeping { below: Waiting }, peer, slots)
+        for rule in RULES.iter() {
+            let peer = Peer::new(heap, *rule, tasks)?;
+            self.run(rt, &plan, rule, peer, slots)?;
+        }
+        Ok(())
     }
 }
 
 // What a slot shows is the same in both.
 fn same_event(rt: &impl Abort, event: &Event, shown: &Shown) {
     assert_eq!(rt; event.picked, shown.picked.unwrap_or(0), "picked");
-    assert_eq!(rt; done_of(event.ended), shown.ended, "ended");
-    let mut task = 0u8;
-    for came in event.arrivals.iter() {
-        task = task.saturating_add(1);
+    assert_eq!(rt; event.ended.map(Done::from), shown.ended, "ended");
+    for (task, came) in (1u8..).zip(event.arrivals.iter()) {
         assert_eq!(rt; *came, shown.arrivals.contains(&task), "arrival of {task}");
     }
 }
@@ -250,11 +227,9 @@ fn same_event(rt: &impl Abort, event: &Event, shown: &Shown) {
 // The jobs and the last runner are the same in both.
 fn same_state(rt: &impl Abort, state: &State, peer: &Peer) {
     assert_eq!(rt; state.last, peer.runner().unwrap_or(0), "last runner");
-    let mut task = 0u8;
-    for mine in state.tasks.iter() {
-        task = task.saturating_add(1);
+    for (task, mine) in (1u8..).zip(state.tasks.iter()) {
         assert_eq!(rt;
-            work_and_age(mine.job),
+            mine.job.map(work_and_age),
             peer.work_and_age(task),
             "job of {task}"
         );

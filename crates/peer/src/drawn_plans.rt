@@ -2,6 +2,7 @@
 use crate::compare::{Tally, Trial};
 use crate::falls::Kind;
 use crate::order::Numbers;
+use crate::shown::Lates;
 use std::process::Abort;
 use std::test::*;
 
@@ -28,8 +29,8 @@ fn large_plan(trial: &mut Trial, count: u16) -> Result<Vec<Numbers>, Fail> {
 // That each thing was seen at least so often.
 fn seen_often(rt: &impl Abort, tally: Tally, times: u32) {
     assert!(rt; tally.void >= times, "void");
-    assert!(rt; tally.overlap >= times, "late by an overlap");
-    assert!(rt; tally.deadline >= times, "late by a deadline");
+    assert!(rt; tally.late.overlap >= times, "late by an overlap");
+    assert!(rt; tally.late.deadline >= times, "late by a deadline");
     assert!(rt; tally.ended >= times, "ended");
     assert!(rt; tally.stayed >= times, "stayed by choice");
 }
@@ -38,8 +39,7 @@ fn show(rt: &HostRuntime, tally: Tally) -> Result<(), Fail> {
     let Tally {
         slots,
         void,
-        overlap,
-        deadline,
+        late: Lates { overlap, deadline },
         ended,
         stayed,
     } = tally;

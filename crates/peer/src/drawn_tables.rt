@@ -4,13 +4,12 @@ use crate::falls::Kind;
 use crate::kept::Kept;
 use crate::library::{Streams, plan_of};
 use crate::offered::Offers;
-use crate::order::{Numbers, Rule};
-use crate::shown::PeerCause;
+use crate::order::{Numbers, RULES};
+use crate::shown::Lates;
 use crate::spelled::Side;
 use dispatch::Dispatch;
-use dispatch::keeping::Keeping;
-use dispatch::priority::Priority;
-use dispatch::waiting::Waiting;
+use refusals::Refusal;
+use rules::Rule;
 use schedule::Schedule;
 use std::alloc::Global;
 use std::collections::BTreeMap;
@@ -25,8 +24,7 @@ const LIMIT: usize = 1500;
 #[derive(Drop)]
 struct Tally {
     complete: BTreeMap<u8, u32>,
-    overlap: u32,
-    deadline: u32,
+    late: Lates,
     passed_over: u32,
     states: usize,
     ways: u64,
@@ -39,13 +37,6 @@ impl Tally {
         let tables = self.complete.entry(side.tasks)?.or_insert(0);
         *tables = tables.saturating_add(1);
         Ok(())
-    }
-
-    fn late(&mut self, cause: PeerCause) {
-        match cause {
-            PeerCause::Overlap => self.overlap = self.overlap.saturating_add(1),
-            PeerCause::Deadline => self.deadline = self.deadline.saturating_add(1),
-        }
     }
 }
 
@@ -97,36 +88,26 @@ impl Trial {
 
     // Tables of these tasks under each rule.
     fn all_rules(&mut self, rt: &impl Abort, tasks: &[Numbers]) -> Result<(), Fail> {
-        let rule = Priority;
-        let plan = plan_of(tasks)?;
-        self.one_rule(rt, Rule::Priority, tasks, &Schedule { plan, rule })?;
-        let rule = Waiting;
-        let plan = plan_of(tasks)?;
-        self.one_rule(rt, Rule::Waiting, tasks, &Schedule { plan, rule })?;
-        let rule = Keeping { below: Priority };
-        let plan = plan_of(tasks)?;
-        self.one_rule(rt, Rule::KeepingPriority, tasks, &Schedule { plan, rule })?;
-        let rule = Keeping { below: Waiting };
-        let plan = plan_of(tasks)?;
-        self.one_rule(rt, Rule::KeepingWaiting, tasks, &Schedule { plan, rule })
+        for rule in RULES.iter() {
+            self.one_rule(rt, *rule, tasks)?;
+        }
+        Ok(())
     }
 
-    fn one_rule<D: Dispatch>(
-        &mut self,
-        rt: &impl Abort,
-        rule: Rule,
-        tasks: &[Numbers],
-        schedule: &Schedule<Streams, D>,
-    ) -> Result<(), Fail> {
+    fn one_rule(&mut self, rt: &impl Abort, rule: Rule, tasks: &[Numbers]) -> Result<(), Fail> {
+        let schedule = Schedule {
+            plan: plan_of(tasks)?,
+            rule,
+        };
         let Some(side) = Side::new(self.heap, rule, tasks, LIMIT)? else {
             self.tally.passed_over = self.tally.passed_over.saturating_add(1);
             return Ok(());
         };
-        self.stepped(rt, schedule, &side)?;
+        self.stepped(rt, &schedule, &side)?;
         if side.reached.late {
             return Ok(());
         }
-        self.offers.all(rt, schedule, &side)
+        self.offers.all(rt, &schedule, &side)
     }
 
     // A table with rows enough, stepped to the end beside one that takes what it writes; and one with a row fewer.
@@ -141,7 +122,7 @@ impl Trial {
         let mut other = Kept::new(self.heap, schedule, states)?;
         kept.finish_with(rt, schedule, &mut other)?;
         if side.reached.late {
-            self.tally.late(side.late(rt, &kept)?);
+            self.tally.late.count(side.late(rt, &kept)?);
             return Ok(());
         }
         side.complete(rt, &kept)?;
@@ -163,7 +144,7 @@ impl Trial {
         let Err(fault) = kept.finish(schedule) else {
             return Err(Fail::new("a row fewer than states"));
         };
-        assert_eq!(rt; fault.refusal.number(), 16);
+        assert_eq!(rt; fault.refusal, Refusal::NoRowLeft);
         Ok(())
     }
 }
@@ -171,8 +152,7 @@ impl Trial {
 fn show(rt: &HostRuntime, trial: &Trial) -> Result<(), Fail> {
     let Tally {
         complete,
-        overlap,
-        deadline,
+        late: Lates { overlap, deadline },
         passed_over,
         states,
         ways,
@@ -199,7 +179,7 @@ fn seen(rt: &impl Abort, trial: &Trial) {
         );
     }
     assert!(rt;
-        trial.tally.overlap >= 50 && trial.tally.deadline >= 50,
+        trial.tally.late.overlap >= 50 && trial.tally.late.deadline >= 50,
         "late"
     );
     for number in 9..19u8 {
@@ -218,8 +198,7 @@ fn small_tables(rt: HostRuntime) -> Result<(), Fail> {
         draw: Draw { last: 362_436_069 },
         tally: Tally {
             complete: BTreeMap::new(heap),
-            overlap: 0,
-            deadline: 0,
+            late: Lates::default(),
             passed_over: 0,
             states: 0,
             ways: 0,

@@ -76,12 +76,7 @@ fn in_stretch(period: u32, jitter: u32, offset: u32, past: &[u32], slot: u32) ->
 
 // Whether one of the slots lies from the first to the last.
 pub(crate) fn any_within(slots: &[u32], first: u32, last: u32) -> bool {
-    for s in slots {
-        if first <= *s && *s <= last {
-            return true;
-        }
-    }
-    false
+    slots.iter().any(|slot| first <= *slot && *slot <= last)
 }
 
 // So many slots after the arrival before.

@@ -2,10 +2,12 @@
 use crate::compare::{Pair, Trial};
 use crate::falls::Kind;
 use crate::library::plan_of;
-use crate::order::{Numbers, Rule};
+use crate::order::Numbers;
 use crate::scheduler::Peer;
-use crate::shown::{Done, PeerCause, PeerOutcome};
+use crate::shown::{Done, PeerOutcome};
 use dispatch::priority::Priority;
+use outcome::Cause;
+use rules::Rule;
 use slot::start;
 use std::process::Abort;
 use std::test::*;
@@ -91,7 +93,7 @@ fn late_with_an_end(rt: HostRuntime) -> Result<(), Fail> {
     let PeerOutcome::Late { task, cause, shown } = pair.peer.slot(trial.heap, 0)? else {
         return Err(Fail::new("not late"));
     };
-    assert_eq!(rt; (task, cause), (2, PeerCause::Deadline));
+    assert_eq!(rt; (task, cause), (2, Cause::Deadline));
     assert_eq!(rt; shown.ended, job(1, 2));
     Ok(())
 }
@@ -110,7 +112,7 @@ fn late_by_an_overlap(rt: HostRuntime) -> Result<(), Fail> {
     let PeerOutcome::Late { task, cause, shown } = pair.peer.slot(trial.heap, 0)? else {
         return Err(Fail::new("not late"));
     };
-    assert_eq!(rt; (task, cause), (2, PeerCause::Overlap));
+    assert_eq!(rt; (task, cause), (2, Cause::Overlap));
     assert_eq!(rt; shown.picked, None);
     Ok(())
 }

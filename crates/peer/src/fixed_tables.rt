@@ -1,7 +1,8 @@
 // Plans with known reachable states.
 use crate::falls::Kind;
-use crate::order::{Numbers, Rule};
+use crate::order::Numbers;
 use crate::spelled::Side;
+use rules::Rule;
 use std::alloc::Global;
 use std::process::Abort;
 use std::test::*;
@@ -42,11 +43,10 @@ fn counts(
     Ok(side)
 }
 
-fn responses(side: &Side, task: u8) -> (u32, u32) {
-    match side.reached.span(task) {
-        Some(span) => (span.least, span.greatest),
-        None => (0, 0),
-    }
+fn responses(side: &Side, task: u8) -> Option<(u32, u32)> {
+    side.reached
+        .span(task)
+        .map(|span| (span.least, span.greatest))
 }
 
 // Task 2 waits for task 1 once or twice.
@@ -57,8 +57,8 @@ fn six_states(rt: HostRuntime) -> Result<(), Fail> {
         task(periodic(4, 0, 0), 1, 1, 2, 4),
     ];
     let side = counts(&rt, rt.alloc(), &tasks, 6, 12, false)?;
-    assert_eq!(rt; responses(&side, 1), (1, 1));
-    assert_eq!(rt; responses(&side, 2), (2, 4));
+    assert_eq!(rt; responses(&side, 1), Some((1, 1)));
+    assert_eq!(rt; responses(&side, 2), Some((2, 4)));
     Ok(())
 }
 
@@ -74,7 +74,7 @@ fn five_states_of_each_kind(rt: HostRuntime) -> Result<(), Fail> {
     counts(&rt, rt.alloc(), &[task(gaps, 1, 1, 1, 1)], 5, 12, false)?;
     let tasks = [task(periodic(3, 1, 1), 1, 1, 1, 1)];
     let side = counts(&rt, rt.alloc(), &tasks, 5, 12, false)?;
-    assert_eq!(rt; responses(&side, 1), (1, 1));
+    assert_eq!(rt; responses(&side, 1), Some((1, 1)));
     Ok(())
 }
 
@@ -86,7 +86,7 @@ fn two_states_and_late(rt: HostRuntime) -> Result<(), Fail> {
         task(periodic(8, 0, 0), 1, 1, 1, 2),
     ];
     let side = counts(&rt, rt.alloc(), &tasks, 2, 4, true)?;
-    assert_eq!(rt; responses(&side, 1), (2, 2));
-    assert_eq!(rt; responses(&side, 2), (0, 0));
+    assert_eq!(rt; responses(&side, 1), Some((2, 2)));
+    assert_eq!(rt; responses(&side, 2), None);
     Ok(())
 }

@@ -5,6 +5,7 @@ use crate::library::Streams;
 use crate::spelled::Side;
 use crate::written::evidence;
 use dispatch::Dispatch;
+use refusals::Refusal;
 use schedule::Schedule;
 use std::alloc::Global;
 use std::collections::BTreeMap;
@@ -72,7 +73,7 @@ impl Offers {
         };
         assert_eq!(rt;
             self.offer(rt, schedule, &mut kept, bytes)?,
-            Some(11),
+            Some(Refusal::Closed),
             "taken after the end"
         );
         Ok(())
@@ -157,23 +158,23 @@ impl Offers {
     ) -> Result<(), Fail> {
         let mut kept = Kept::new(self.heap, schedule, size)?;
         for bytes in records {
-            if let Some(number) = self.offer(rt, schedule, &mut kept, bytes)? {
+            if let Some(refusal) = self.offer(rt, schedule, &mut kept, bytes)? {
                 assert_eq!(rt; usize::from(kept.table.numbers().held), size);
-                assert_eq!(rt; number, 16);
+                assert_eq!(rt; refusal, Refusal::NoRowLeft);
                 return Ok(());
             }
         }
         Err(Fail::new("a row fewer than states"))
     }
 
-    // The number of the refusal, if the bytes are refused. The table and its rows are then as before.
+    // The refusal, if the bytes are refused. The table and its rows are then as before.
     fn offer<D: Dispatch>(
         &mut self,
         rt: &impl Abort,
         schedule: &Schedule<Streams, D>,
         kept: &mut Kept,
         bytes: &[u8],
-    ) -> Result<Option<u8>, Fail> {
+    ) -> Result<Option<Refusal>, Fail> {
         let before = kept.copied()?;
         let Err(fault) = kept.take(schedule, bytes) else {
             return Ok(None);
@@ -181,10 +182,10 @@ impl Offers {
         // A refusal changes nothing.
         before.same(rt, kept);
         let number = fault.refusal.number();
-        assert!(rt; fits(bytes, number), "refusal {number}");
+        assert!(rt; fits(bytes, fault.refusal), "refusal {number}");
         let times = self.refused.entry(number)?.or_insert(0);
         *times = times.saturating_add(1);
-        Ok(Some(number))
+        Ok(Some(fault.refusal))
     }
 }
 
@@ -197,22 +198,22 @@ fn may_be_true(bytes: &[u8], records: &[[u8; 16]], next: usize) -> bool {
     if begins(bytes, b'G') {
         return true;
     }
-    for walk in records.iter().skip(next) {
-        if begins(walk, b'W') {
-            return bytes == walk.as_slice();
-        }
-    }
-    false
+    let mut walks = records.iter().skip(next).filter(|walk| begins(*walk, b'W'));
+    walks.next().is_some_and(|walk| bytes == walk.as_slice())
 }
 
-// Whether bytes of this length and first letter can be refused by this number.
-fn fits(bytes: &[u8], number: u8) -> bool {
+// Whether bytes of this length and first letter can be refused so.
+fn fits(bytes: &[u8], refusal: Refusal) -> bool {
     let whole = bytes.len() == 16;
-    match number {
-        9 => !whole,
-        10 | 11 => whole,
-        12..=16 => whole && begins(bytes, b'G'),
-        17 | 18 => whole && begins(bytes, b'W'),
+    match refusal {
+        Refusal::Length => !whole,
+        Refusal::Letters | Refusal::Closed => whole,
+        Refusal::RowNotHeld
+        | Refusal::NoSuchWay
+        | Refusal::WayVoidOrLate
+        | Refusal::StateHeld
+        | Refusal::NoRowLeft => whole && begins(bytes, b'G'),
+        Refusal::NotNext | Refusal::OutcomeWrong => whole && begins(bytes, b'W'),
         _ => false,
     }
 }

@@ -1,16 +1,16 @@
 // Which open job runs: the least in an order that the rule makes.
-ghost use Rattle.std.specs.Prelude.{◌≡◌, length, is_some, IfOk, nat_lt};
+ghost use Rattle.std.specs.Prelude.{◌≡◌, length, is_some, nat_lt};
 
 use crate::falls::Kind;
-use std::alloc::{AllocError, Global};
+use rules::Rule;
 
-#[derive(Clone, Copy)]
-pub enum Rule {
-    Priority,
-    Waiting,
-    KeepingPriority,
-    KeepingWaiting,
-}
+// Every rule.
+pub const RULES: [Rule; 4] = [
+    Rule::Priority,
+    Rule::Waiting,
+    Rule::KeepingPriority,
+    Rule::KeepingWaiting,
+];
 
 // A task's numbers.
 #[derive(Clone, Copy)]
@@ -59,49 +59,32 @@ impl Open {
 
     fn place(&self, rule: Rule, ran: Option<Name>) -> Place {
         Place {
-            changes: rule.keeps() && ran != Some(self.name()),
-            key: rule.key(self),
+            changes: keeps(rule) && ran != Some(self.name()),
+            key: key(rule, self),
             task: self.task,
         }
     }
 }
 
-impl Rule {
-    // Whether a job that ran in the slot before goes on.
-    fn keeps(self) -> bool {
-        match self {
-            Rule::Priority | Rule::Waiting => false,
-            Rule::KeepingPriority | Rule::KeepingWaiting => true,
-        }
-    }
+// Whether a job that ran in the slot before goes on.
+fn keeps(rule: Rule) -> bool {
+    matches!(rule, Rule::KeepingPriority | Rule::KeepingWaiting)
+}
 
-    // The greater priority, or the earlier arrival, has the lesser key.
-    fn key(self, job: &Open) -> u32 {
-        match self {
-            Rule::Priority | Rule::KeepingPriority => 255u32.saturating_sub(u32::from(
-                job.numbers.priority,
-            )),
-            Rule::Waiting | Rule::KeepingWaiting => job.arrived,
+// The greater priority, or the earlier arrival, has the lesser key.
+fn key(rule: Rule, job: &Open) -> u32 {
+    match rule {
+        Rule::Priority | Rule::KeepingPriority => {
+            255u32.saturating_sub(u32::from(job.numbers.priority))
         }
+        Rule::Waiting | Rule::KeepingWaiting => job.arrived,
     }
+}
 
-    // The task of the job that runs, where `ran` is the job that was picked in the slot before. One runs wherever one is open.
-    pub(crate) fn pick(
-        self,
-        heap: Global,
-        jobs: &[Open],
-        ran: Option<Name>,
-    ) -> Result<Option<u8>, AllocError>
-        ensures runs { IfOk result (λ p. is_some p ≡ nat_lt 0 (length jobs.now)) }
-    {
-        let mut places = Vec::new(heap);
-        for job in jobs {
-            places.push(job.place(self, ran))?;
-        }
-        places.sort()?;
-        match places.get(0) {
-            Some(place) => Ok(Some(place.task)),
-            None => Ok(None),
-        }
-    }
+// The task of the job that runs, where `ran` is the job that was picked in the slot before. One runs wherever one is open.
+pub(crate) fn pick(rule: Rule, jobs: &[Open], ran: Option<Name>) -> Option<u8>
+    ensures runs { is_some result ≡ nat_lt 0 (length jobs.now) }
+{
+    let first = jobs.iter().map(|job| job.place(rule, ran)).min();
+    first.map(|place| place.task)
 }

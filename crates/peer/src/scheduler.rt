@@ -2,14 +2,16 @@
 ghost use Rattle.std.specs.Prelude.{◌≡◌, ◌≤◌, length, IfOk, None, vec_len};
 
 use crate::falls::Falls;
-use crate::order::{Name, Numbers, Open, Rule};
-use crate::shown::{Done, PeerCause, PeerOutcome, Shown};
+use crate::order::{Name, Numbers, Open, pick};
+use crate::shown::{Done, PeerOutcome, Shown};
+use outcome::Cause;
+use rules::Rule;
 use std::alloc::{AllocError, Global};
 
 // A task: its number from 1, its other numbers, and the slots of its arrivals.
 #[derive(Clone, Drop)]
 pub struct Task {
-    number: u8,
+    pub(crate) number: u8,
     pub(crate) numbers: Numbers,
     pub(crate) arrivals: Vec<u32>,
 }
@@ -46,11 +48,9 @@ impl Peer {
         ensures all { IfOk result (λ p. vec_len p.tasks ≡ length all.now) }
     {
         let mut tasks = Vec::new(heap);
-        let mut number = 0u8;
-        for numbers in all {
-            number = number.saturating_add(1);
+        for (i, numbers) in all.iter().enumerate() {
             tasks.push(Task {
-                number,
+                number: u8::try_from(i.saturating_add(1)).unwrap_or(u8::MAX),
                 numbers: *numbers,
                 arrivals: Vec::new(heap),
             })?;
@@ -79,22 +79,18 @@ impl Peer {
 
     // The work done on the task's open job and the slots since its arrival.
     pub(crate) fn work_and_age(&self, task: u8) -> Option<(u32, u32)> {
-        for job in self.jobs.iter() {
-            if job.task == task {
-                return Some((job.worked, self.slot.saturating_sub(job.arrived)));
-            }
-        }
-        None
+        self.jobs
+            .iter()
+            .find(|job| job.task == task)
+            .map(|job| (job.worked, self.slot.saturating_sub(job.arrived)))
     }
 
     // The task that was picked in the slot before, if its job is still open.
     pub(crate) fn runner(&self) -> Option<u8> {
-        for job in self.jobs.iter() {
-            if self.ran == Some(job.name()) {
-                return Some(job.task);
-            }
-        }
-        None
+        self.jobs
+            .iter()
+            .find(|job| self.ran == Some(job.name()))
+            .map(|job| job.task)
     }
 
     // The next slot, by the way of this number.
@@ -109,7 +105,7 @@ impl Peer {
             (Some(_), true) => Ok(PeerOutcome::Void),
             (Some(task), false) => Ok(PeerOutcome::Late {
                 task,
-                cause: PeerCause::Overlap,
+                cause: Cause::Overlap,
                 shown: Shown {
                     arrivals: tasks,
                     picked: None,
@@ -137,13 +133,11 @@ impl Peer {
 
     // The least of these tasks that has an open job.
     fn overlap(&self, tasks: &[u8]) -> Option<u8> {
-        let mut least = None;
-        for job in self.jobs.iter() {
-            if tasks.contains(&job.task) {
-                least = lesser(least, job.task);
-            }
-        }
-        least
+        self.jobs
+            .iter()
+            .map(|job| job.task)
+            .filter(|task| tasks.contains(task))
+            .min()
     }
 
     // The rest of a slot in which these tasks get a job.
@@ -155,8 +149,8 @@ impl Peer {
     ) -> Result<PeerOutcome, AllocError> {
         let mut peer = self.clone()?;
         peer.admit(&arrivals)?;
-        let picked = peer.rule.pick(heap, &peer.jobs, peer.ran)?;
-        let ended = match peer.work(heap, picked, stay)? {
+        let picked = pick(peer.rule, &peer.jobs, peer.ran);
+        let ended = match peer.work(picked, stay)? {
             Turn::Void => return Ok(PeerOutcome::Void),
             Turn::Stays => None,
             Turn::Ends(done) => Some(done),
@@ -185,12 +179,8 @@ impl Peer {
     }
 
     // A slot of work on the open job of the picked task.
-    fn work(&mut self, heap: Global, picked: Option<u8>, stay: bool) -> Result<Turn, AllocError> {
-        let job = match picked {
-            Some(task) => self.take(heap, task)?,
-            None => None,
-        };
-        let Some(mut job) = job else {
+    fn work(&mut self, picked: Option<u8>, stay: bool) -> Result<Turn, AllocError> {
+        let Some(mut job) = picked.and_then(|task| self.take(task)) else {
             self.ran = None;
             return Ok(if stay { Turn::Void } else { Turn::Stays });
         };
@@ -204,18 +194,9 @@ impl Peer {
     }
 
     // Takes the task's job out of the open ones.
-    fn take(&mut self, heap: Global, task: u8) -> Result<Option<Open>, AllocError> {
-        let mut taken = None;
-        let mut others = Vec::new(heap);
-        for job in self.jobs.iter() {
-            if job.task == task {
-                taken = Some(*job);
-            } else {
-                others.push(*job)?;
-            }
-        }
-        self.jobs = others;
-        Ok(taken)
+    fn take(&mut self, task: u8) -> Option<Open> {
+        let place = self.jobs.iter().position(|job| job.task == task)?;
+        Some(self.jobs.remove(place))
     }
 
     // The slot is over: late if an open job is due.
@@ -224,7 +205,7 @@ impl Peer {
         match self.overdue() {
             Some(task) => PeerOutcome::Late {
                 task,
-                cause: PeerCause::Deadline,
+                cause: Cause::Deadline,
                 shown,
             },
             None => PeerOutcome::Next { peer: self, shown },
@@ -233,13 +214,11 @@ impl Peer {
 
     // The least task with an open job that was due before the next slot.
     fn overdue(&self) -> Option<u8> {
-        let mut least = None;
-        for job in self.jobs.iter() {
-            if job.arrived.saturating_add(u32::from(job.numbers.deadline)) <= self.slot {
-                least = lesser(least, job.task);
-            }
-        }
-        least
+        self.jobs
+            .iter()
+            .filter(|job| job.arrived.saturating_add(u32::from(job.numbers.deadline)) <= self.slot)
+            .map(|job| job.task)
+            .min()
     }
 }
 
@@ -262,13 +241,5 @@ fn job_turn(job: &Open, stay: bool, slot: u32) -> Turn {
             task: job.task,
             response: slot.saturating_add(1).saturating_sub(job.arrived),
         })
-    }
-}
-
-// The lesser of a task and the least so far.
-fn lesser(least: Option<u8>, task: u8) -> Option<u8> {
-    match least {
-        Some(other) => Some(other.min(task)),
-        None => Some(task),
     }
 }

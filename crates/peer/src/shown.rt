@@ -1,10 +1,22 @@
 // What a slot of the peer comes to, and what it shows.
 use crate::scheduler::Peer;
+use outcome::{Cause, Ended};
 
-#[derive(Clone, Copy, PartialEq, Eq, Debug)]
-pub enum PeerCause {
-    Overlap,
-    Deadline,
+// How often something was late, by cause.
+#[derive(Clone, Copy, Default)]
+pub struct Lates {
+    pub overlap: u32,
+    pub deadline: u32,
+}
+
+impl Lates {
+    pub(crate) fn count(&mut self, cause: Cause) {
+        let times = match cause {
+            Cause::Overlap => &mut self.overlap,
+            Cause::Deadline => &mut self.deadline,
+        };
+        *times = times.saturating_add(1);
+    }
 }
 
 // The job that ended: its task, and its response time in slots.
@@ -12,6 +24,15 @@ pub enum PeerCause {
 pub struct Done {
     pub task: u8,
     pub response: u32,
+}
+
+impl From<Ended> for Done {
+    fn from(job: Ended) -> Done {
+        Done {
+            task: job.task,
+            response: u32::from(job.response),
+        }
+    }
 }
 
 // The tasks with an arrival, the task picked, and the job that ended.
@@ -27,7 +48,7 @@ pub enum PeerOutcome {
     Void,
     Late {
         task: u8,
-        cause: PeerCause,
+        cause: Cause,
         shown: Shown,
     },
     Next {

@@ -1,11 +1,12 @@
 // A table against what the peer reached: its counts, its times, and the runs that it spells out.
 use crate::kept::Kept;
-use crate::library::cause_of;
-use crate::order::{Numbers, Rule};
+use crate::order::Numbers;
 use crate::reached::Reached;
 use crate::scheduler::Peer;
-use crate::shown::{Done, PeerCause, PeerOutcome};
+use crate::shown::{Done, PeerOutcome};
 use exploration::{Shown, Stage};
+use outcome::Cause;
+use rules::Rule;
 use std::alloc::Global;
 use std::process::Abort;
 use std::test::*;
@@ -45,9 +46,9 @@ impl Side {
         assert_eq!(rt; numbers.stage, Stage::Complete);
         assert_eq!(rt; usize::from(numbers.held), self.reached.states(), "states");
         assert_eq!(rt; numbers.walked, self.reached.ways, "ways");
-        for i in 0..self.tasks {
-            let times = self.times(rt, kept, i + 1)?;
-            match self.reached.span(i + 1) {
+        for task in 1..=self.tasks {
+            let times = self.times(rt, kept, task)?;
+            match self.reached.span(task) {
                 Some(span) => assert_eq!(rt; times, (Some(span.least), Some(span.greatest))),
                 None => assert_eq!(rt; times, (None, None)),
             }
@@ -90,7 +91,7 @@ impl Side {
     }
 
     // The table is late, and so is the peer in the run that is spelled out.
-    pub(crate) fn late(&self, rt: &impl Abort, kept: &Kept) -> Result<PeerCause, Fail> {
+    pub(crate) fn late(&self, rt: &impl Abort, kept: &Kept) -> Result<Cause, Fail> {
         let Stage::Late {
             row,
             way,
@@ -108,9 +109,9 @@ impl Side {
         else {
             return Err(Fail::new("the run of a late table is not late"));
         };
-        assert_eq!(rt; (task, cause_of(cause)), (named, why));
-        for i in 0..self.tasks {
-            self.times(rt, kept, i + 1)?;
+        assert_eq!(rt; (task, cause), (named, why));
+        for task in 1..=self.tasks {
+            self.times(rt, kept, task)?;
         }
         Ok(why)
     }

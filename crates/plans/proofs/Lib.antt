@@ -1,3 +1,4 @@
 pub mod Views
 mod Places
 mod Records
+pub mod Cut

@@ -1,5 +1,6 @@
 -- The tasks of a plan, place by place. Assumes nothing.
-use Rattle.std.proofs.Common.{◌≡◌, ℕ, ◌+◌, ◌<◌, ◌≤◌, List, [], ◌∷◌, length, get_or, drop, Some, None, Option, refl, arith}
+use Rattle.std.proofs.Common.{◌≡◌, ℕ, ◌+◌, ◌<◌, ◌≤◌, List, [], ◌∷◌, length, get_or, drop, Some, None, Option, refl, arith, is_some}
+use Rattle.std.specs.List.{prefix_len}
 use Rattle.std.proofs.lemmas.List.{drop_more}
 use Rattle.streams.specs.Meaning.{Meaning}
 use Rattle.plans.specs.declared.plan.Task.{Task}
@@ -15,6 +16,12 @@ module _ {S : Type 0} (meaning : S → Meaning) where
   pub task_views_end : (ts : List (Option (Task S))) (i : ℕ) (d : Option (Task S)) → i < length ts → get_or ts i d ≡ None →
       task_views meaning (drop i ts) ≡ []
   task_views_end ts i d h e = rw (drop_more ts i d h, e) refl
+
+-- the places up to the first free one
+pub leading : {S : Type 0} (meaning : S → Meaning) (ts : List (Option (Task S))) → prefix_len is_some ts ≡ length (task_views meaning ts)
+leading meaning [] = refl
+leading meaning (None ∷ ts) = refl
+leading meaning (Some t ∷ ts) = let ih = leading meaning ts in omega arith
 
 pub views_few : {S : Type 0} (meaning : S → Meaning) (ts : List (Option (Task S))) → length (task_views meaning ts) ≤ length ts
 views_few meaning [] = omega arith

@@ -3,4 +3,5 @@ pub mod Packed
 pub mod Tasks
 pub mod Fields
 pub mod Adding
+pub mod Cut
 pub mod Record

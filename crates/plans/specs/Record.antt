@@ -1,5 +1,7 @@
 -- Plan records: 24 bytes, little-endian, one for each task.
-use Rattle.std.specs.Prelude.{◌≡◌, ℕ, zero, suc, ◌+◌, ◌*◌, cond, List, [], ◌∷◌, length, take, drop, Some, None, Ok, Err, Option, Result, ◌==◌, slice_index}
+use Rattle.std.specs.Prelude.{◌≡◌, ℕ, ◌+◌, ◌*◌, cond, List, [], ◌∷◌, length, drop, Some, None, Ok, Err, Option, Result, ◌==◌, not, slice_index}
+use Rattle.std.specs.List.{position}
+use Rattle.std.specs.Option.{option_map}
 use Rattle.refusals.specs.declared.Fault.{Fault}
 use Rattle.refusals.specs.declared.Refusal.TheVariants.{RecordLength, Kind, StreamBounds, ZeroBytes}
 use Rattle.streams.specs.declared.either.Either.{Either}
@@ -17,6 +19,7 @@ use Rattle.plans.specs.Fields.{parameter_offset}
 use Rattle.plans.specs.declared.plan.Plan.{Plan}
 use Rattle.plans.specs.declared.plan.Task.{Task}
 use Rattle.plans.specs.Tasks.{TaskView, task_view, task_views}
+use Rattle.plans.specs.Cut.{pieces}
 use Rattle.plans.specs.Adding.{fault_at, read_numbers, adding}
 
 -- What a stream of either kind means.
@@ -42,8 +45,7 @@ stream_meaning S o x y = sporadic x y o
 
 -- The offset of the first byte that is not 0, counted from i.
 abbrev pub first_nonzero : ℕ → List ℕ → Option ℕ
-first_nonzero i [] = None
-first_nonzero i (b ∷ bs) = cond (b == 0) (first_nonzero (i + 1) bs) (Some i)
+first_nonzero i bs = option_map (λ n. i + n) (position (λ b. not (b == 0)) bs)
 
 -- The checks of a record, in their order: its length, its letter, the task's numbers, the stream's, and the bytes that are 0.
 abbrev pub check_zeros : ℕ → Option ℕ → TaskView → Result TaskView Fault
@@ -74,9 +76,7 @@ Reads (Err f) reading = reading ≡ Err f
 
 -- The records of a plan's bytes, at most n of them: each has 24 bytes, and a shorter rest is the last.
 abbrev pub records : ℕ → List ℕ → List (List ℕ)
-records zero bs = []
-records (suc n) [] = []
-records (suc n) (b ∷ bs) = take 24 (b ∷ bs) ∷ records n (drop 24 (b ∷ bs))
+records = pieces 24
 
 -- All records are added in order; the first refusal is the answer.
 abbrev pub add_next : Result (List TaskView) Fault → List ℕ → Result (List TaskView) Fault

@@ -1,5 +1,6 @@
 // Making plans.
-ghost use Rattle.std.specs.Prelude.{◌≡◌, ◌+◌, ◌≤◌, [], length, Some, None, Ok, Err, MatchResult, OnErr};
+ghost use Rattle.std.specs.Prelude.{◌≡◌, ◌+◌, ◌≤◌, [], length, is_some, Some, None, Ok, Err, MatchResult, OnErr};
+ghost use Rattle.std.specs.List.{prefix_len};
 ghost use Rattle.plans.specs.Tasks.{task_view, task_views};
 ghost use Rattle.plans.specs.Fields.{times_fault};
 ghost use Rattle.plans.specs.Adding.{fault_at, read_numbers, Added};
@@ -8,6 +9,7 @@ use crate::field::Field;
 use crate::limits::{DEADLINE_LIMIT, WORST_LIMIT};
 use crate::plan::{Plan, Task, Times};
 use refusals::{Fault, Refusal};
+use std::array;
 use streams::Stream;
 
 impl Times {
@@ -40,22 +42,26 @@ impl<S: Stream> Plan<S> {
         ensures { task_views S.Stream.meaning result.tasks ≡ [] }
     {
         Plan {
-            tasks: [None, None, None, None, None, None, None, None],
+            tasks: array::from_fn(|_| None),
         }
     }
 
     // How many tasks it has.
+    #[tactic(auto, using(crate::proofs::Views::leading))]
     pub fn count(&self) -> usize
         ensures value { result ≡ length (task_views S.Stream.meaning self.now.tasks) }
         ensures few { result ≤ 8 }
     {
-        for i in 0..8 {
-            let Some(_task) = &self.tasks[i] else {
-                return i;
-            };
-        }
-        8
+        taken(&self.tasks)
     }
+}
+
+// How many places are taken, up to the first free one.
+fn taken<T>(places: &[Option<T>]) -> usize
+    ensures value { result ≡ prefix_len is_some places.now }
+    ensures few { result ≤ length places.now }
+{
+    places.iter().take_while(|place| place.is_some()).count()
 }
 
 impl<S: Stream + Drop> Plan<S> {
@@ -66,10 +72,7 @@ impl<S: Stream + Drop> Plan<S> {
     {
         let n = self.count();
         if n >= 8 {
-            return Err(Fault {
-                refusal: Refusal::PlanFull,
-                at: (n as u32 + 1, 0),
-            });
+            return Err(Refusal::PlanFull.at(n as u32 + 1, 0));
         }
         self.tasks[n] = Some(task);
         Ok(())
@@ -87,12 +90,10 @@ impl<S: Stream + Drop> Plan<S> {
         ensures added { Added (task_views S.Stream.meaning self.old.tasks) (task_views S.Stream.meaning self.new.tasks) (read_numbers (length (task_views S.Stream.meaning self.old.tasks) + 1) (S.Stream.meaning stream) priority best worst deadline) result }
         ensures same { OnErr result (self.new ≡ self.old) }
     {
-        match Times::new(priority, best, worst, deadline) {
-            Ok(times) => self.put(Task { stream, times }),
-            Err(field) => Err(Fault {
-                refusal: Refusal::TaskBounds,
-                at: (self.count() as u32 + 1, field.offset()),
-            }),
-        }
+        let number = self.count() as u32 + 1;
+        let times = Times::new(priority, best, worst, deadline).map_err(
+            |field| Refusal::TaskBounds.at(number, field.offset()),
+        )?;
+        self.put(Task { stream, times })
     }
 }

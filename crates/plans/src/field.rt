@@ -2,13 +2,13 @@
 ghost use Rattle.std.specs.Prelude.{◌≡◌};
 ghost use Rattle.plans.specs.Fields.{field_offset};
 
-// A number of a task that is out of bounds.
+// A number of a task that is out of bounds, by where it stands in a plan record.
 #[derive(Clone, Copy, PartialEq, Eq, Debug)]
 pub enum Field {
-    Priority,
-    Best,
-    Worst,
-    Deadline,
+    Priority = 1,
+    Best = 2,
+    Worst = 4,
+    Deadline = 6,
 }
 
 impl Field {
@@ -16,11 +16,6 @@ impl Field {
     pub fn offset(self) -> u32
         ensures { result ≡ field_offset self }
     {
-        match self {
-            Field::Priority => 1,
-            Field::Best => 2,
-            Field::Worst => 4,
-            Field::Deadline => 6,
-        }
+        self as u32
     }
 }

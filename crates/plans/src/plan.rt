@@ -25,6 +25,7 @@ pub struct Task<S> {
 }
 
 // The tasks stand in the first places; a task's number is its place, from 1.
+// An array, since the box has no heap; the kit's ArrayVec wants a blank task for each free place, and there is no blank stream.
 #[derive(Drop)]
 pub struct Plan<S> {
     pub tasks: [Option<Task<S>>; 8],

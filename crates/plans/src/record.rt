@@ -1,5 +1,7 @@
 // Plan records: 24 bytes for a task.
-ghost use Rattle.std.specs.Prelude.{◌≡◌, ◌+◌, ◌<◌, length, drop, Some, None, MatchResult, OnErr};
+ghost use Rattle.std.specs.Prelude.{◌≡◌, ◌+◌, ◌<◌, ◌==◌, not, length, drop, Some, None, MatchResult, OnErr};
+ghost use Rattle.std.specs.List.{position};
+ghost use Rattle.std.specs.Result.{result_ok};
 ghost use Rattle.plans.specs.Tasks.{task_view, task_views};
 ghost use Rattle.plans.specs.Fields.{parameter_offset};
 ghost use Rattle.plans.specs.Adding.{Added};
@@ -16,20 +18,28 @@ use streams::sporadic::Sporadic;
 pub type Kind = Either<Periodic, Sporadic>;
 
 // The letter of a kind.
-#[derive(Clone, Copy)]
+#[derive(Clone, Copy, PartialEq, Eq, Debug)]
 pub enum Letter {
     P,
     S,
 }
 
-// The kind that byte 0 chooses.
-fn kind_of(byte: u8) -> Option<Letter>
-    ensures { result ≡ letter_of byte }
-{
-    match byte as char {
-        'P' => Some(Letter::P),
-        'S' => Some(Letter::S),
-        _ => None,
+// A byte that is no kind's letter.
+#[derive(Clone, Copy, PartialEq, Eq, Debug)]
+pub struct NoLetter;
+
+// Byte 0 of a record chooses the kind.
+impl TryFrom<u8> for Letter {
+    type Error = NoLetter;
+
+    ghost try_from_gives = { λ byte letter. result_ok letter ≡ letter_of byte };
+
+    fn try_from(byte: u8) -> Result<Letter, NoLetter> {
+        match byte as char {
+            'P' => Ok(Letter::P),
+            'S' => Ok(Letter::S),
+            _ => Err(NoLetter),
+        }
     }
 }
 
@@ -38,7 +48,7 @@ fn word(bytes: &[u8], at: usize) -> u16
     requires { at + 1 < length bytes.now }
     ensures { result ≡ word_at bytes.now at }
 {
-    bytes[at] as u16 + 256 * (bytes[at + 1] as u16)
+    u16::from_le_bytes([bytes[at], bytes[at + 1]])
 }
 
 // The stream of a kind by its offset and its two other parameters, or the first parameter out of bounds.
@@ -46,18 +56,12 @@ fn stream(kind: Letter, offset: u16, first: u16, second: u16) -> Result<Kind, Pa
     ensures { MatchResult result (λ s. (stream_fault kind offset first second ≡ None) × (kind_meaning s ≡ stream_meaning kind offset first second)) (λ p. stream_fault kind offset first second ≡ Some p) }
 {
     match kind {
-        Letter::P => match Periodic::new(first, second, offset) {
-            Ok(stream) => Ok(Either::Left(stream)),
-            Err(parameter) => Err(parameter),
-        },
-        Letter::S => match Sporadic::new(first, second, offset) {
-            Ok(stream) => Ok(Either::Right(stream)),
-            Err(parameter) => Err(parameter),
-        },
+        Letter::P => Ok(Either::Left(Periodic::new(first, second, offset)?)),
+        Letter::S => Ok(Either::Right(Sporadic::new(first, second, offset)?)),
     }
 }
 
-// Where a parameter stands in a record.
+// Where a parameter stands in a record. A match, unlike `Field::offset`: streams know nothing of records, and two parameters share a place.
 fn offset_of(parameter: Parameter) -> u32
     ensures { result ≡ parameter_offset parameter }
 {
@@ -68,17 +72,19 @@ fn offset_of(parameter: Parameter) -> u32
     }
 }
 
+// The index of the first byte that is not 0.
+fn first_set(bytes: &[u8]) -> Option<usize>
+    ensures { result ≡ position (λ b. not (b == 0)) bytes.now }
+{
+    bytes.iter().position(|byte| *byte != 0)
+}
+
 // The first of the bytes from 14 on that is not 0.
 fn nonzero(bytes: &[u8]) -> Option<u32>
     requires { length bytes.now ≡ 24 }
     ensures { result ≡ first_nonzero 14 (drop 14 bytes.now) }
 {
-    for i in 14..24 {
-        if bytes[i] != 0 {
-            return Some(i as u32);
-        }
-    }
-    None
+    first_set(&bytes[14..]).map(|i| 14 + i as u32)
 }
 
 // The task of a record, or the first fault: its length, its letter, the task's numbers, the stream's, the bytes that are 0.
@@ -86,38 +92,19 @@ fn read(bytes: &[u8], number: u32) -> Result<Task<Kind>, Fault>
     ensures { Reads result (read_record number bytes.now) }
 {
     if bytes.len() != 24 {
-        return Err(Fault {
-            refusal: Refusal::RecordLength,
-            at: (number, 0),
-        });
+        return Err(Refusal::RecordLength.at(number, 0));
     }
-    let Some(kind) = kind_of(bytes[0]) else {
-        return Err(Fault {
-            refusal: Refusal::Kind,
-            at: (number, 0),
-        });
-    };
-    let times = match Times::new(bytes[1], word(bytes, 2), word(bytes, 4), word(bytes, 6)) {
-        Ok(times) => times,
-        Err(field) => return Err(Fault {
-            refusal: Refusal::TaskBounds,
-            at: (number, field.offset()),
-        }),
-    };
-    let stream = match stream(kind, word(bytes, 8), word(bytes, 10), word(bytes, 12)) {
-        Ok(stream) => stream,
-        Err(parameter) => return Err(Fault {
-            refusal: Refusal::StreamBounds,
-            at: (number, offset_of(parameter)),
-        }),
-    };
-    if let Some(at) = nonzero(bytes) {
-        return Err(Fault {
-            refusal: Refusal::ZeroBytes,
-            at: (number, at),
-        });
+    let kind = Letter::try_from(bytes[0]).map_err(|_| Refusal::Kind.at(number, 0))?;
+    let times = Times::new(bytes[1], word(bytes, 2), word(bytes, 4), word(bytes, 6)).map_err(
+        |field| Refusal::TaskBounds.at(number, field.offset()),
+    )?;
+    let stream = stream(kind, word(bytes, 8), word(bytes, 10), word(bytes, 12)).map_err(
+        |parameter| Refusal::StreamBounds.at(number, offset_of(parameter)),
+    )?;
+    match nonzero(bytes) {
+        Some(at) => Err(Refusal::ZeroBytes.at(number, at)),
+        None => Ok(Task { stream, times }),
     }
-    Ok(Task { stream, times })
 }
 
 impl Plan<Kind> {
@@ -135,11 +122,8 @@ impl Plan<Kind> {
         ensures { ReadsPlan result (read_plan bytes.now) }
     {
         let mut plan = Plan::new();
-        let mut at = 0;
-        while at < bytes.len() {
-            let end = bytes.len().min(at + 24);
-            plan.add_record(&bytes[at..end])?;
-            at = end;
+        for record in bytes.chunks(24) {
+            plan.add_record(record)?;
         }
         Ok(plan)
     }

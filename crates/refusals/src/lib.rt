@@ -4,30 +4,31 @@
 ghost use Rattle.std.specs.Prelude.{◌≡◌, Some};
 ghost use Rattle.refusals.specs.Refusals.{number_of, meaning_of, OneToOne, text_of};
 
+use std::error::Error;
 use std::fmt;
 
 // Why a call was refused.
 #[derive(Clone, Copy, PartialEq, Eq, Debug)]
 pub enum Refusal {
-    RecordLength,
-    Kind,
-    TaskBounds,
-    StreamBounds,
-    ZeroBytes,
-    PlanFull,
-    PlanEmpty,
-    RowCount,
-    Length,
-    Letters,
-    Closed,
-    RowNotHeld,
-    NoSuchWay,
-    WayVoidOrLate,
-    StateHeld,
-    NoRowLeft,
-    NotNext,
-    OutcomeWrong,
-    NoSuchTask,
+    RecordLength = 1,
+    Kind = 2,
+    TaskBounds = 3,
+    StreamBounds = 4,
+    ZeroBytes = 5,
+    PlanFull = 6,
+    PlanEmpty = 7,
+    RowCount = 8,
+    Length = 9,
+    Letters = 10,
+    Closed = 11,
+    RowNotHeld = 12,
+    NoSuchWay = 13,
+    WayVoidOrLate = 14,
+    StateHeld = 15,
+    NoRowLeft = 16,
+    NotNext = 17,
+    OutcomeWrong = 18,
+    NoSuchTask = 19,
 }
 
 impl Refusal {
@@ -36,26 +37,16 @@ impl Refusal {
         ensures value { result ≡ number_of self }
         ensures one_to_one { OneToOne }
     {
-        match self {
-            Refusal::RecordLength => 1,
-            Refusal::Kind => 2,
-            Refusal::TaskBounds => 3,
-            Refusal::StreamBounds => 4,
-            Refusal::ZeroBytes => 5,
-            Refusal::PlanFull => 6,
-            Refusal::PlanEmpty => 7,
-            Refusal::RowCount => 8,
-            Refusal::Length => 9,
-            Refusal::Letters => 10,
-            Refusal::Closed => 11,
-            Refusal::RowNotHeld => 12,
-            Refusal::NoSuchWay => 13,
-            Refusal::WayVoidOrLate => 14,
-            Refusal::StateHeld => 15,
-            Refusal::NoRowLeft => 16,
-            Refusal::NotNext => 17,
-            Refusal::OutcomeWrong => 18,
-            Refusal::NoSuchTask => 19,
+        self as u8
+    }
+
+    // The refusal with two place numbers: a record and an offset, a row and a way, or a task and 0.
+    pub fn at(self, first: u32, second: u32) -> Fault
+        ensures { result ≡ record { refusal = self; at = (first, second) } }
+    {
+        Fault {
+            refusal: self,
+            at: (first, second),
         }
     }
 
@@ -96,6 +87,17 @@ pub struct Fault {
     pub refusal: Refusal,
     pub at: (u32, u32),
 }
+
+// A refusal at no place in particular.
+impl From<Refusal> for Fault {
+    ghost from_gives = { λ why f. f ≡ record { refusal = why; at = (0, 0) } };
+
+    fn from(why: Refusal) -> Fault {
+        why.at(0, 0)
+    }
+}
+
+impl Error for Fault {}
 
 impl fmt::Display for Fault {
     ghost output = { λ f. Some (text_of f) };

@@ -1,4 +1,4 @@
-// What a slot shows, as a line of text.
+// What a replay shows, as lines of text.
 use outcome::Ended;
 use slot::event::Event;
 use std::fmt;
@@ -21,24 +21,20 @@ impl fmt::Display for SlotLine {
 }
 
 fn arrivals<W: fmt::Write>(f: &mut fmt::Formatter<W>, tasks: &[bool; 8]) -> fmt::Result {
-    let mut some = false;
+    if !tasks.contains(&true) {
+        return write!(f, "no arrival");
+    }
+    write!(f, "arrived")?;
     for (i, arrives) in tasks.iter().enumerate() {
         if *arrives {
-            if !some {
-                write!(f, "arrived")?;
-            }
-            some = true;
             let task = i + 1;
             write!(f, " {task}")?;
         }
     }
-    if some {
-        Ok(())
-    } else {
-        write!(f, "no arrival")
-    }
+    Ok(())
 }
 
+// An event's pick is 0 for none, as the rules have it.
 fn ran<W: fmt::Write>(f: &mut fmt::Formatter<W>, picked: u8) -> fmt::Result {
     if picked == 0 {
         write!(f, ", none ran")
@@ -51,5 +47,37 @@ fn ended<W: fmt::Write>(f: &mut fmt::Formatter<W>, job: Option<Ended>) -> fmt::R
     match job {
         Some(Ended { task, response }) => write!(f, ", ended {task} with response {response}"),
         None => Ok(()),
+    }
+}
+
+// One task's line: the responses of its jobs that the slots showed.
+#[derive(Drop)]
+pub struct ResponsesLine<'a> {
+    pub task: u8,
+    pub events: &'a [Event],
+}
+
+impl ResponsesLine<'_> {
+    fn response(&self, event: &Event) -> Option<u16> {
+        let ended = event.ended?;
+        (ended.task == self.task).then_some(ended.response)
+    }
+}
+
+impl fmt::Display for ResponsesLine<'_> {
+    fn fmt<W: fmt::Write>(&self, f: &mut fmt::Formatter<W>) -> fmt::Result {
+        let task = self.task;
+        write!(f, "task {task}: responses")?;
+        if !self
+            .events
+            .iter()
+            .any(|event| self.response(event).is_some())
+        {
+            return write!(f, " none");
+        }
+        for response in self.events.iter().filter_map(|event| self.response(event)) {
+            write!(f, " {response}")?;
+        }
+        Ok(())
     }
 }

@@ -1,14 +1,19 @@
 // The dispatch rules that a user can name, as one rule.
 #![tactic(auto)]
 
-ghost use Rattle.std.specs.Prelude.{◌≡◌, MatchOption, ◌≢◌};
-ghost use Rattle.rules.specs.Named.{picks_of, name_of};
+ghost use Rattle.std.specs.Prelude.{Some};
+ghost use Rattle.rules.specs.Named.{picks_of, name_of, IsNamed, none_of};
 ghost use Rattle.dispatch.specs.Picks.{by_priority, by_age, waited};
 ghost use Rattle.dispatch.specs.Jobs.{greatest_conserves, keeping_conserves};
 ghost use Rattle.rules.specs.declared.Rule.TheVariants.{Priority, Waiting, KeepingPriority, KeepingWaiting};
 
 use dispatch::keeping::Keeping;
+use dispatch::priority::Priority as ByPriority;
+use dispatch::waiting::Waiting as ByAge;
 use dispatch::{Dispatch, Seen};
+use std::error::Error;
+use std::fmt;
+use std::str::FromStr;
 
 #[derive(Clone, Copy, PartialEq, Eq, Debug)]
 pub enum Rule {
@@ -18,22 +23,56 @@ pub enum Rule {
     KeepingWaiting,
 }
 
-// What the rules are called, for messages.
-pub const NAMES: &str = "priority, waiting, keeping-priority and keeping-waiting";
+// A name that no rule has.
+#[derive(Clone, Copy, PartialEq, Eq, Debug)]
+pub struct NoSuchRule;
 
 // The rule of a name.
-pub fn named(name: &str) -> Option<Rule>
-    ensures { MatchOption result ((rule : Rule) → name_of rule ≢ name.now) (λ rule. name_of rule ≡ name.now) }
-{
-    match name {
-        "priority" => Some(Rule::Priority),
-        "waiting" => Some(Rule::Waiting),
-        "keeping-priority" => Some(Rule::KeepingPriority),
-        "keeping-waiting" => Some(Rule::KeepingWaiting),
-        _ => None,
+impl FromStr for Rule {
+    type Err = NoSuchRule;
+
+    ghost from_str_gives = { IsNamed };
+
+    fn from_str(name: &str) -> Result<Rule, NoSuchRule> {
+        match name {
+            "priority" => Ok(Rule::Priority),
+            "waiting" => Ok(Rule::Waiting),
+            "keeping-priority" => Ok(Rule::KeepingPriority),
+            "keeping-waiting" => Ok(Rule::KeepingWaiting),
+            _ => Err(NoSuchRule),
+        }
     }
 }
 
+// A rule is shown by its name.
+impl fmt::Display for Rule {
+    ghost output = { λ rule. Some (name_of rule) };
+
+    fn fmt<W: fmt::Write>(&self, f: &mut fmt::Formatter<W>) -> fmt::Result {
+        f.write_str(match self {
+            Rule::Priority => "priority",
+            Rule::Waiting => "waiting",
+            Rule::KeepingPriority => "keeping-priority",
+            Rule::KeepingWaiting => "keeping-waiting",
+        })
+    }
+}
+
+// What the rules are called.
+impl fmt::Display for NoSuchRule {
+    ghost output = { λ _. Some none_of };
+
+    fn fmt<W: fmt::Write>(&self, f: &mut fmt::Formatter<W>) -> fmt::Result {
+        write!(
+            f,
+            "the rules are priority, waiting, keeping-priority and keeping-waiting"
+        )
+    }
+}
+
+impl Error for NoSuchRule {}
+
+// An enum, and no dyn: a rule is chosen at run time, and a function may not make a dyn and hand it out.
 impl Dispatch for Rule {
     ghost picks = { picks_of };
 
@@ -46,28 +85,10 @@ impl Dispatch for Rule {
 
     fn pick(&self, tasks: &[Seen], last: usize) -> usize {
         match self {
-            Rule::Priority => <dispatch::priority::Priority as Dispatch>::pick(
-                &dispatch::priority::Priority,
-                tasks,
-                last,
-            ),
-            Rule::Waiting => <dispatch::waiting::Waiting as Dispatch>::pick(
-                &dispatch::waiting::Waiting,
-                tasks,
-                last,
-            ),
-            Rule::KeepingPriority => {
-                let rule = Keeping {
-                    below: dispatch::priority::Priority,
-                };
-                rule.pick(tasks, last)
-            }
-            Rule::KeepingWaiting => {
-                let rule = Keeping {
-                    below: dispatch::waiting::Waiting,
-                };
-                rule.pick(tasks, last)
-            }
+            Rule::Priority => ByPriority.pick(tasks, last),
+            Rule::Waiting => ByAge.pick(tasks, last),
+            Rule::KeepingPriority => Keeping { below: ByPriority }.pick(tasks, last),
+            Rule::KeepingWaiting => Keeping { below: ByAge }.pick(tasks, last),
         }
     }
 }

@@ -1,5 +1,5 @@
 -- The arrivals of a run are those of runs of the streams. Assumes nothing.
-use Rattle.std.proofs.Common.{◌≡◌, ℕ, zero, suc, ◌+◌, ◌-◌, ◌*◌, ◌/◌, ◌%◌, ◌<◌, Bool, true, false, cond, ◌&&◌, eqb, leb, ◌⊎◌, List, [], ◌∷◌, length, get_or, take, replicate, Some, None, Option, sym, refl, ap, ◌∙◌, inl, inr, mod-lt, mod-eq_of_lt, arith, eq-eqb, eqb-true}
+use Rattle.std.proofs.Common.{◌≡◌, ℕ, zero, suc, ◌+◌, ◌-◌, ◌*◌, ◌/◌, ◌%◌, ◌<◌, Bool, true, false, cond, not, is_some, ◌&&◌, eqb, leb, ◌⊎◌, List, [], ◌∷◌, length, get_or, take, replicate, Some, None, Option, sym, refl, ap, ◌∙◌, inl, inr, mod-lt, mod-eq_of_lt, arith}
 use native.Mathlib.Nat.{div-eq_of_lt}
 use Rattle.std.specs.List.{slice_get}
 use Rattle.std.proofs.lemmas.Bool.{cases_Bool, cases_eq, and_parts, and_from}
@@ -85,13 +85,17 @@ tl [] = []
 tl (w ∷ ws) = ws
 
 cons_is : (ws : List ℕ) (n : ℕ) → length ws ≡ suc n → ws ≡ hd ws ∷ tl ws
-cons_is [] n h = elim (let no : ⊥ = omega arith in no) [ ]
+cons_is [] n h = absurd (omega arith)
 cons_is (w ∷ ws) n h = refl
+
+none_so : (o : Option ℕ) → not (is_some o) ≡ true → o ≡ None
+none_so None h = refl
+none_so (Some k) h = absurd (cc)
 
 -- the way that takes the streams' ways of a number, and stays where that is wished and may be
 module _ (ds : List TaskView) (picks : Picks) (m : StateView) (base : ℕ) (bounded : base < choices ds m.tasks) (wish : Bool) where
   abbrev want : Bool
-  want = wish && (eqb (over ds picks m base) 0 && (round ds picks m base).may_choose)
+  want = wish && (not (is_some (over ds picks m base)) && (round ds picks m base).may_choose)
 
   abbrev pub wished : ℕ
   wished = cond want (1 * choices ds m.tasks + base) base
@@ -119,20 +123,20 @@ module _ (ds : List TaskView) (picks : Picks) (m : StateView) (base : ℕ) (boun
   pub wished_open : slot ds picks m wished ≡ void → ⊥
   wished_open = elim (cases_Bool want) [
     | inl y ↦
-        let p = and_parts wish (eqb (over ds picks m base) 0 && (round ds picks m base).may_choose) y in
-        let q = and_parts (eqb (over ds picks m base) 0) (round ds picks m base).may_choose p.1 in
+        let p = and_parts wish (not (is_some (over ds picks m base)) && (round ds picks m base).may_choose) y in
+        let q = and_parts (not (is_some (over ds picks m base))) (round ds picks m base).may_choose p.1 in
         let e : wished ≡ 1 * choices ds m.tasks + base = rw y refl in
-        not_void_stay ds picks m wished (rw e (omega arith)) (over_same ∙ eqb-true (over ds picks m base) 0 q.0) (choose_same ∙ q.1)
+        not_void_stay ds picks m wished (rw e (omega arith)) (over_same ∙ none_so (over ds picks m base) q.0) (choose_same ∙ q.1)
     | inr y ↦
         let e : wished ≡ base = rw y refl in
         not_void ds picks m wished (rw e bounded)
   ]
 
-  pub wished_obeys : over ds picks m wished ≡ 0 → (round ds picks m wished).may_choose ≡ true → stays ds picks m wished ≡ wish
+  pub wished_obeys : over ds picks m wished ≡ None → (round ds picks m wished).may_choose ≡ true → stays ds picks m wished ≡ wish
   wished_obeys z c =
-      let z' : eqb (over ds picks m base) 0 ≡ true = eq-eqb (over ds picks m base) 0 (sym over_same ∙ z) in
+      let z' : not (is_some (over ds picks m base)) ≡ true = ap (λ o. not (is_some o)) (sym over_same ∙ z) in
       let c' : (round ds picks m base).may_choose ≡ true = sym choose_same ∙ c in
-      wished_stays ∙ ap (λ x. wish && x) (and_from (eqb (over ds picks m base) 0) (round ds picks m base).may_choose z' c') ∙ and_true wish
+      wished_stays ∙ ap (λ x. wish && x) (and_from (not (is_some (over ds picks m base))) (round ds picks m base).may_choose z' c') ∙ and_true wish
     where
       and_true : (x : Bool) → (x && true) ≡ x
       and_true true = refl
@@ -142,7 +146,7 @@ module _ (ds : List TaskView) (picks : Picks) (m : StateView) (base : ℕ) (boun
 abbrev pub Obeys : List TaskView → Picks → (ℕ → Bool) → ℕ → StateView → List ℕ → Type 0
 Obeys ds picks wish i m [] = Unit {0}
 Obeys ds picks wish i m (w ∷ ws) =
-    (over ds picks m w ≡ 0 → (round ds picks m w).may_choose ≡ true → stays ds picks m w ≡ wish i)
+    (over ds picks m w ≡ None → (round ds picks m w).may_choose ≡ true → stays ds picks m w ≡ wish i)
     × ((m' : StateView) (e : Option Ended) → slot ds picks m w ≡ next m' e → Obeys ds picks wish (i + 1) m' ws)
 
 module _ (ds : List TaskView) (picks : Picks) where

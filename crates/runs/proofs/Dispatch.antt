@@ -23,7 +23,7 @@ dispatch_stands ds picks proper ways trace end r n p clear =
     ]
 
 job_nth : (ts : List Seen) (i : ℕ) (t : Seen) → slice_get ts i ≡ Some t → job_at ts i ≡ is_some t.age
-job_nth [] i t h = let z : ◌≡◌ {A = ℕ} 0 1 = cc in elim (let no : ⊥ = omega arith in no) [ ]
+job_nth [] i t h = absurd (cc)
 job_nth (s ∷ ts) zero t h = let e : s ≡ t = cc in rw e refl
 job_nth (s ∷ ts) (suc i) t h = job_nth ts i t h
 
@@ -33,12 +33,12 @@ nth_job (s ∷ ts) zero h = (s, refl)
 nth_job (s ∷ ts) (suc i) h = nth_job ts i h
 
 key_nth : (key : Seen → ℕ) (ts : List Seen) (i : ℕ) (t : Seen) → slice_get ts i ≡ Some t → key_at key ts i ≡ key t
-key_nth key [] i t h = let z : ◌≡◌ {A = ℕ} 0 1 = cc in elim (let no : ⊥ = omega arith in no) [ ]
+key_nth key [] i t h = absurd (cc)
 key_nth key (s ∷ ts) zero t h = let e : s ≡ t = cc in rw e refl
 key_nth key (s ∷ ts) (suc i) t h = key_nth key ts i t h
 
 has_nth : (ts : List Seen) (k : ℕ) → 1 ≤ k → has_job ts k ≡ job_at ts (k - 1)
-has_nth ts zero h = elim (let no : ⊥ = omega arith in no) [ ]
+has_nth ts zero h = absurd (omega arith)
 has_nth ts (suc i) h = let e : suc i - 1 ≡ i = omega arith in rw e refl
 
 has_some : (ts : List Seen) (k : ℕ) → has_job ts k ≡ true → 1 ≤ k

@@ -34,7 +34,7 @@ Does picked stay d p j =
 pub does : (picked stay : Bool) (d : TaskView) (p : ℕ) (j : Job) → Timed d → Does picked stay d p j
 does false stay d p j t =
     let e : j.work ≡ j.work + 0 = omega arith in
-    inr (record { s_response = refl; s_job = ap (λ (w : ℕ). Some (record { work = w; age = j.age + 1 })) e; s_below = λ q. let z : ◌≡◌ {A = ℕ} 0 1 = cc in elim (let no : ⊥ = omega arith in no) [ ]; s_timely = refl })
+    inr (record { s_response = refl; s_job = ap (λ (w : ℕ). Some (record { work = w; age = j.age + 1 })) e; s_below = λ q. absurd (cc); s_timely = refl })
 does true stay d p j t =
     elim (cases_Bool (leb d.worst (j.work + 1))) [
       | inl y ↦ rw y (inl (record { e_picked = refl; e_response = refl; e_job = refl; e_enough = omega (arith, leb-true d.worst (j.work + 1) y, t.order); e_timely = refl }))
@@ -83,8 +83,8 @@ module _ (f : ℕ → Event) (k : ℕ) (d : TaskView) (timed : Timed d) where
       record {
         within = omega arith;
         came = rw z b;
-        alone = λ i p q. elim (let no : ⊥ = omega arith in no) [ ];
-        unended = λ i p q. elim (let no : ⊥ = omega arith in no) [ ];
+        alone = λ i p q. absurd (omega arith);
+        unended = λ i p q. absurd (omega arith);
         work = refl;
         below = omega (arith, timed.some, timed.order);
         young = omega (arith, timed.some, timed.order, timed.fit);
@@ -129,7 +129,7 @@ module _ (f : ℕ → Event) (k : ℕ) (d : TaskView) (timed : Timed d) where
   pub quiet_closed : (n : ℕ) → arrives (f n) k ≡ false → Closed n → Closed (n + 1)
   quiet_closed n b c = record {
     closed = λ a p q. elim (cases_eq a n) [
-      | inl e ↦ let q' : arrives (f n) k ≡ true = rw e at q in let z : ◌≡◌ {A = ℕ} 0 1 = cc in elim (let no : ⊥ = omega arith in no) [ ]
+      | inl e ↦ let q' : arrives (f n) k ≡ true = rw e at q in absurd (cc)
       | inr e ↦ let r = c.closed a (omega arith) q in (r.0, r.1, omega (arith, r.2), r.3, r.4)
     ];
   }
@@ -173,7 +173,7 @@ module _ (f : ℕ → Event) (k : ℕ) (d : TaskView) (timed : Timed d) where
       let r = c.closed a o.before o.came in
       let x : response (f r.0) k ≡ None = o.unended r.0 r.1 r.2 in
       let y : None ≡ Some r.3 = sym x ∙ r.4 in
-      let z : ◌≡◌ {A = ℕ} 0 1 = cc in omega arith
+      cc
 
   pub some_pending : (n a : ℕ) (j : Job) → Alive n j → PendingBefore f k a n → a ≡ n - j.age
   some_pending n a j l o =
@@ -202,11 +202,11 @@ module _ (f : ℕ → Event) (k : ℕ) (d : TaskView) (timed : Timed d) where
             rw (sym e) (fresh n y)
         | inr y ↦
             let h' : None ≡ Some j = rw y at h in
-            let z : ◌≡◌ {A = ℕ} 0 1 = cc in elim (let no : ⊥ = omega arith in no) [ ]
+            absurd (cc)
       ]
   mid_of n (Some o) j l fr h =
       elim (cases_Bool (arrives (f n) k)) [
-        | inl y ↦ let h' : Some o ≡ None = fr y in let z : ◌≡◌ {A = ℕ} 0 1 = cc in elim (let no : ⊥ = omega arith in no) [ ]
+        | inl y ↦ let h' : Some o ≡ None = fr y in absurd (cc)
         | inr y ↦
             let h' : Some o ≡ Some j = rw y at h in
             let e : o ≡ j = cc in
@@ -218,17 +218,17 @@ module _ (f : ℕ → Event) (k : ℕ) (d : TaskView) (timed : Timed d) where
       elim (cases_Bool (arrives (f n) k)) [
         | inl y ↦
             let h' : ◌≡◌ {A = Option Job} (Some (record { work = 0; age = 0 })) None = rw y at h in
-            let z : ◌≡◌ {A = ℕ} 0 1 = cc in elim (let no : ⊥ = omega arith in no) [ ]
+            absurd (cc)
         | inr y ↦ quiet_closed n y l
       ]
   closed_of n (Some o) l h =
       elim (cases_Bool (arrives (f n) k)) [
         | inl y ↦
             let h' : Some o ≡ None = rw y at h in
-            let z : ◌≡◌ {A = ℕ} 0 1 = cc in elim (let no : ⊥ = omega arith in no) [ ]
+            absurd (cc)
         | inr y ↦
             let h' : Some o ≡ None = rw y at h in
-            let z : ◌≡◌ {A = ℕ} 0 1 = cc in elim (let no : ⊥ = omega arith in no) [ ]
+            absurd (cc)
       ]
 
   -- what the rule sees
@@ -245,17 +245,17 @@ module _ (f : ℕ → Event) (k : ℕ) (d : TaskView) (timed : Timed d) where
       elim (cases_Bool (arrives (f n) k)) [
         | inl y ↦
             let h' : ◌≡◌ {A = Option Job} (Some (record { work = 0; age = 0 })) None = rw y at h in
-            let z : ◌≡◌ {A = ℕ} 0 1 = cc in elim (let no : ⊥ = omega arith in no) [ ]
+            absurd (cc)
         | inr y ↦ unseen n a y l w
       ]
   unseen_of n (Some o) l h a w =
       elim (cases_Bool (arrives (f n) k)) [
         | inl y ↦
             let h' : Some o ≡ None = rw y at h in
-            let z : ◌≡◌ {A = ℕ} 0 1 = cc in elim (let no : ⊥ = omega arith in no) [ ]
+            absurd (cc)
         | inr y ↦
             let h' : Some o ≡ None = rw y at h in
-            let z : ◌≡◌ {A = ℕ} 0 1 = cc in elim (let no : ⊥ = omega arith in no) [ ]
+            absurd (cc)
       ]
 
   pub age_as_shown : (n : ℕ) (o o' : Option Job) → o' ≡ given (arrives (f n) k) o → Lives n o → (arrives (f n) k ≡ true → o ≡ None) → AgeAsShown f k n (age_of o')
@@ -274,9 +274,9 @@ module _ (f : ℕ → Event) (k : ℕ) (d : TaskView) (timed : Timed d) where
       response (f n) k ≡ (serve_job (is_picked (f n) k) stay d p o').response →
       One n (serve_job (is_picked (f n) k) stay d p o').state.job (serve_job (is_picked (f n) k) stay d p o').late
   one_slot n p stay o None e l fr hr = record {
-    law = λ x h. let z : ◌≡◌ {A = ℕ} 0 1 = cc in elim (let no : ⊥ = omega arith in no) [ ];
+    law = λ x h. absurd (cc);
     onward = λ _. closed_of n o l (sym e);
-    expires = λ t. let z : ◌≡◌ {A = ℕ} 0 1 = cc in elim (let no : ⊥ = omega arith in no) [ ];
+    expires = λ t. absurd (cc);
   }
   one_slot n p stay o (Some j) e l fr hr =
       let m = mid_of n o j l fr (sym e) in
@@ -287,7 +287,7 @@ module _ (f : ℕ → Event) (k : ℕ) (d : TaskView) (timed : Timed d) where
           expires = λ t. elim (both_ways _ b.e_timely t) [ ];
         }
         | inr b ↦ record {
-          law = λ x h. let q : None ≡ Some x = sym (hr ∙ b.s_response) ∙ h in let z : ◌≡◌ {A = ℕ} 0 1 = cc in elim (let no : ⊥ = omega arith in no) [ ];
+          law = λ x h. let q : None ≡ Some x = sym (hr ∙ b.s_response) ∙ h in absurd (cc);
           onward = λ t. rw b.s_job (stayed n j _ _ _ m b hr t);
           expires = λ t. expired n j _ _ _ m b hr t;
         }

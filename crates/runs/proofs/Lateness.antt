@@ -29,7 +29,7 @@ pending_of f k d t n (Some j) l h =
 module _ (ds : List TaskView) (picks : Picks) (proper : Proper ds) (f : ℕ → Event) (n : ℕ) (m : StateView) (way : ℕ) (know : Know ds picks proper f n m) where
   module _ (k : ℕ) (c : Cause) (w : Crossed ds picks m way (f n) k c) where
     x : Crossing ds m.tasks 1 (mix ds picks m way) k
-    x = crossing ds m.tasks 1 (mix ds picks m way) k w.x_task w.x_some
+    x = crossing ds m.tasks 1 (mix ds picks m way) k w.x_task
 
     index_is : k - 1 ≡ x.x_index
     index_is = omega (arith, x.x_number)
@@ -64,7 +64,7 @@ module _ (ds : List TaskView) (picks : Picks) (proper : Proper ds) (f : ℕ → 
 
   module _ (k : ℕ) (c : Cause) (w : Tardy ds picks m way (f n) k c) where
     y : StayingJob ds (come_to ds picks m way) (chosen ds picks m way) (stays ds picks m way) 1 k
-    y = staying_job ds (come_to ds picks m way) (chosen ds picks m way) (stays ds picks m way) 1 k w.t_task w.t_some
+    y = staying_job ds (come_to ds picks m way) (chosen ds picks m way) (stays ds picks m way) 1 k w.t_task
 
     index_is' : k - 1 ≡ y.y_index
     index_is' = omega (arith, y.y_number)
@@ -103,9 +103,9 @@ module _ (ds : List TaskView) (picks : Picks) (proper : Proper ds) (trace : List
 
   late_of : (end : Ending) → Final ds picks proper f 0 (length trace) end → Lateness ds trace end
   late_of (ends_in m) r = record {
-    overlap_then = λ k e. let z : ◌≡◌ {A = ℕ} 0 1 = cc in elim (let no : ⊥ = omega arith in no) [ ];
+    overlap_then = λ k e. absurd (cc);
     overlap_if = λ k n p o. elim ((r.r_calm n (omega arith) p).apart k o) [ ];
-    deadline_then = λ k e. let z : ◌≡◌ {A = ℕ} 0 1 = cc in elim (let no : ⊥ = omega arith in no) [ ];
+    deadline_then = λ k e. absurd (cc);
     deadline_if = λ k n p e no. elim ((r.r_calm n (omega arith) p).in_time k e) [ ];
   }
   late_of (ends_late k c) r =
@@ -119,7 +119,7 @@ module _ (ds : List TaskView) (picks : Picks) (proper : Proper ds) (trace : List
                 | inl q ↦ elim ((r.l_calm n (omega arith) q).apart k' o) [ ]
                 | inr q ↦ (k, ap (ends_late k) w.x_cause, omega (arith, r.l_is))
               ];
-              deadline_then = λ k' e. let e' : Overlap ≡ Deadline = sym w.x_cause ∙ (same_late k k' c Deadline e).1 in let z : ◌≡◌ {A = ℕ} 0 1 = cc in elim (let no : ⊥ = omega arith in no) [ ];
+              deadline_then = λ k' e. let e' : Overlap ≡ Deadline = sym w.x_cause ∙ (same_late k k' c Deadline e).1 in absurd (cc);
               deadline_if = λ k' n p e no. elim (cases_lt n r.l_slot) [
                 | inl q ↦ elim ((r.l_calm n (omega arith) q).in_time k' e) [ ]
                 | inr q ↦ let ne : r.l_slot ≡ n = omega (arith, r.l_is) in elim (no k (rw ne at here)) [ ]
@@ -130,7 +130,7 @@ module _ (ds : List TaskView) (picks : Picks) (proper : Proper ds) (trace : List
             let first = tardy_first ds picks proper f r.l_slot r.l_state r.l_way r.l_know k c w in
             let apart = clear_apart ds picks proper f r.l_slot r.l_state r.l_way w.clear r.l_know in
             record {
-              overlap_then = λ k' e. let e' : Deadline ≡ Overlap = sym w.t_cause ∙ (same_late k k' c Overlap e).1 in let z : ◌≡◌ {A = ℕ} 0 1 = cc in elim (let no : ⊥ = omega arith in no) [ ];
+              overlap_then = λ k' e. let e' : Deadline ≡ Overlap = sym w.t_cause ∙ (same_late k k' c Overlap e).1 in absurd (cc);
               overlap_if = λ k' n p o. elim (cases_lt n r.l_slot) [
                 | inl q ↦ elim ((r.l_calm n (omega arith) q).apart k' o) [ ]
                 | inr q ↦ let ne : n ≡ r.l_slot = omega (arith, r.l_is) in elim (apart k' (rw ne at o)) [ ]

@@ -1,8 +1,9 @@
 -- A way of the plan from a way of each stream. Assumes nothing.
-use Rattle.std.proofs.Common.{◌≡◌, ℕ, zero, suc, ◌+◌, ◌*◌, ◌/◌, ◌<◌, false, List, [], ◌∷◌, get_or, Some, sym, refl, ap, mul_comm, arith}
+use Rattle.std.proofs.Common.{◌≡◌, ℕ, zero, suc, ◌+◌, ◌*◌, ◌/◌, ◌<◌, false, List, [], ◌∷◌, get_or, Some, sym, refl, ap, ◌∙◌, mul_comm, arith}
 use lib.Arith.{digits_lt, digits_div, digits_mod}
 use Rattle.std.specs.List.{slice_get}
 use Rattle.slot.specs.declared.state.TaskState.{TaskState}
+use Rattle.runs.proofs.Releases.{arrives_is}
 use Rattle.slot.specs.Arrivals.{choices, come, arrived}
 use Rattle.plans.specs.Tasks.{TaskView}
 use Rattle.slot.specs.Arrivals.{arrivals_in}
@@ -31,8 +32,8 @@ pub record MixedAt (ds : List TaskView) (ss : List TaskState) (a i w : ℕ) (d :
 
 pub mixed_at : (ds : List TaskView) (ss : List TaskState) (h : ℕ → ℕ) → Fits ds ss h → (i : ℕ) (d : TaskView) (s : TaskState) → slice_get ds i ≡ Some d → slice_get ss i ≡ Some s →
     MixedAt ds ss (mixed ds ss h) i (h i) d s
-mixed_at [] ss h f i d s hd hs = let z : ◌≡◌ {A = ℕ} 0 1 = cc in elim (let no : ⊥ = omega arith in no) [ ]
-mixed_at (e ∷ ds) [] h f i d s hd hs = let z : ◌≡◌ {A = ℕ} 0 1 = cc in elim (let no : ⊥ = omega arith in no) [ ]
+mixed_at [] ss h f i d s hd hs = absurd (cc)
+mixed_at (e ∷ ds) [] h f i d s hd hs = absurd (cc)
 mixed_at (e ∷ ds) (t ∷ ss) h f zero d s hd hs =
     let de : e ≡ d = cc in
     let se : t ≡ s = cc in
@@ -42,7 +43,7 @@ mixed_at (e ∷ ds) (t ∷ ss) h f zero d s hd hs =
       after = (come e t (mixed (e ∷ ds) (t ∷ ss) h)).state;
       m_nth = refl;
       m_position = ap (λ x. (e.stream.answer t.position x).1) m;
-      m_shows = ap (λ x. (e.stream.answer t.position x).0) m;
+      m_shows = arrives_is _ t.job ∙ ap (λ x. (e.stream.answer t.position x).0) m;
     })
 mixed_at (e ∷ ds) (t ∷ ss) h f (suc i) d s hd hs =
     let g = f 0 e t refl refl in

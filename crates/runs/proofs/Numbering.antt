@@ -141,7 +141,7 @@ module _ (ds : List TaskView) (picks : Picks) (proper : Proper ds) (m : StateVie
                 worst = lt_is v.y_worst wk;
               }
           | inr c ↦
-              elim (c.2.x_some (sym c.2.x_task ∙ sym over_same ∙ s.0)) [ ]
+              let both : Some c.0 ≡ None = sym c.2.x_task ∙ sym over_same ∙ s.0 in absurd (cc)
         ]
       where
         same : (a b : TaskState) → Some a ≡ Some b → a ≡ b

@@ -21,7 +21,7 @@ module _ (ds : List TaskView) (picks : Picks) (k : ℕ) (d : TaskView) (task : I
     pub t_fresh : arrives g k ≡ true → s.job ≡ None
     pub t_response : response g k ≡ (serve (is_picked g k) (stays ds picks m way) d mid).response
     pub t_next : slice_get (round ds picks m way).tasks (k - 1) ≡ Some (serve (is_picked g k) (stays ds picks m way) d mid).state
-    pub t_late : (round ds picks m way).late ≡ 0 → (serve (is_picked g k) (stays ds picks m way) d mid).late ≡ false
+    pub t_late : (round ds picks m way).late ≡ None → (serve (is_picked g k) (stays ds picks m way) d mid).late ≡ false
 
   pub does_task : (m : StateView) (way : ℕ) (g : Event) (s : TaskState) → Clear ds picks m way g → slice_get m.tasks (k - 1) ≡ Some s → DoesTask m way g s
   does_task m way g s c hs =
@@ -31,8 +31,8 @@ module _ (ds : List TaskView) (picks : Picks) (k : ℕ) (d : TaskView) (task : I
         mid = a.after;
         t_mid = a.a_nth;
         t_job = a.a_job;
-        t_fresh = alone_at ds m.tasks 1 (mix ds picks m way) (k - 1) d s (omega arith) c.no_overlap task.here hs;
+        t_fresh = alone_at ds m.tasks 1 (mix ds picks m way) (k - 1) d s c.no_overlap task.here hs;
         t_response = ended_at ds (come_to ds picks m way) (chosen ds picks m way) (stays ds picks m way) 1 (k - 1) k d a.after e task.here a.a_nth;
         t_next = serve_all_at ds (come_to ds picks m way) (chosen ds picks m way) (stays ds picks m way) 1 (k - 1) k d a.after e task.here a.a_nth;
-        t_late = timely_at ds (come_to ds picks m way) (chosen ds picks m way) (stays ds picks m way) 1 (k - 1) k d a.after e (omega arith) task.here a.a_nth;
+        t_late = timely_at ds (come_to ds picks m way) (chosen ds picks m way) (stays ds picks m way) 1 (k - 1) k d a.after e task.here a.a_nth;
       })

@@ -9,8 +9,8 @@ use Rattle.runs.specs.Run.{Timed, Proper}
 
 module _ {S : Type 0} (meaning : S → Meaning) (law : (s : S) → Sound (meaning s)) where
   one_of : (ts : List (Option (Task S))) (i : ℕ) (d : TaskView) → slice_get (task_views meaning ts) i ≡ Some d → Timed d × Sound d.stream
-  one_of [] i d h = let z : ◌≡◌ {A = ℕ} 0 1 = cc in elim (let no : ⊥ = omega arith in no) [ ]
-  one_of (None ∷ ts) i d h = let z : ◌≡◌ {A = ℕ} 0 1 = cc in elim (let no : ⊥ = omega arith in no) [ ]
+  one_of [] i d h = absurd (cc)
+  one_of (None ∷ ts) i d h = absurd (cc)
   one_of (Some t ∷ ts) zero d h =
       let e : task_view meaning t ≡ d = cc in
       rw (sym e) (record { some = t.times.some; order = t.times.order; fit = t.times.fit }, law t.stream)

@@ -1,6 +1,6 @@
 -- A run is replayed way by way. Assumes nothing.
-use Rattle.std.proofs.Common.{◌≡◌, ℕ, ◌+◌, ◌<◌, List, [], ◌∷◌, ◌++◌, length, get_or, take, drop, set, Option, sym, refl, ap, ◌∙◌, add-one, arith, take-suc-set}
-use Rattle.std.proofs.lemmas.List.{take_more, drop_more, drop-set-lt}
+use Rattle.std.proofs.Common.{◌≡◌, ℕ, ◌+◌, ◌<◌, List, [], ◌∷◌, ◌++◌, length, get_or, take, set, Option, refl, ap, ◌∙◌, add-one, take-suc-set}
+use Rattle.std.proofs.lemmas.List.{take_more}
 use Rattle.dispatch.specs.Picks.{Picks}
 use Rattle.outcome.specs.declared.Cause.{Cause}
 use Rattle.outcome.specs.declared.Ended.{Ended}
@@ -17,7 +17,7 @@ module _ (ts : List TaskView) (picks : Picks) where
   run_next s s' w e (empty {m = m}) is h =
       let q : m ≡ s = cc in
       rw q (way_then h empty)
-  run_next s s' w e (last_late g) is h = let z : ◌≡◌ {A = ℕ} 0 1 = cc in elim (let no : ⊥ = omega arith in no) [ ]
+  run_next s s' w e (last_late g) is h = absurd (cc)
   run_next s s' w e (way_then g r) is h = way_then g (run_next s s' w e r is h)
 
   -- or ends late with it
@@ -26,7 +26,7 @@ module _ (ts : List TaskView) (picks : Picks) where
   run_late s w k c e (empty {m = m}) is h =
       let q : m ≡ s = cc in
       rw q (last_late h)
-  run_late s w k c e (last_late g) is h = let z : ◌≡◌ {A = ℕ} 0 1 = cc in elim (let no : ⊥ = omega arith in no) [ ]
+  run_late s w k c e (last_late g) is h = absurd (cc)
   run_late s w k c e (way_then g r) is h = way_then g (run_late s w k c e r is h)
 
   -- the same, where the ways and the trace are the first i of longer lists
@@ -46,14 +46,3 @@ module _ (ts : List TaskView) (picks : Picks) where
     pub replay_late : (k : ℕ) (c : Cause) (e : Option Ended) → slot ts picks s (get_or ways i 0) ≡ late k c e →
         RunFrom ts picks m (take (i + 1) ways) (take (i + 1) (set trace i v)) (ends_late k c)
     replay_late k c e h = rw (front_ways, front_trace) (run_late s (get_or ways i 0) k c e r refl h)
-
--- past the place written, the trace is as it was
-pub rest_more : (before trace : List Event) (i : ℕ) (v : Event) → i < length trace → i < length before → drop i trace ≡ drop i before →
-    drop (i + 1) (set trace i v) ≡ drop (i + 1) before
-rest_more before trace i v h h' e =
-    let p : drop (i + 1) (set trace i v) ≡ drop (i + 1) trace = drop-set-lt (i + 1) trace i v (omega arith) in
-    let q = drop_more trace i v h in
-    let q' = drop_more before i v h' in
-    let f : get_or trace i v ∷ drop (i + 1) trace ≡ get_or before i v ∷ drop (i + 1) before = sym q ∙ e ∙ q' in
-    let f' : drop (i + 1) trace ≡ drop (i + 1) before = cc in
-    p ∙ f'

@@ -54,7 +54,7 @@ module _ (ds : List TaskView) (picks : Picks) (proper : Proper ds) where
     pub clear_law : Law f n
     clear_law k d t = (ones k d t).law
 
-    pub clear_know : (m' : StateView) → (round ds picks m way).late ≡ 0 → m'.tasks ≡ (round ds picks m way).tasks → Know f (n + 1) m'
+    pub clear_know : (m' : StateView) → (round ds picks m way).late ≡ None → m'.tasks ≡ (round ds picks m way).tasks → Know f (n + 1) m'
     clear_know m' z e k d t = (
       (serve (is_picked (f n) k) (stays ds picks m way) d (did k d t).mid).state,
       rw e (did k d t).t_next,
@@ -118,7 +118,7 @@ module _ (ds : List TaskView) (picks : Picks) (proper : Proper ds) where
   slots : {m : StateView} {ways : List ℕ} {trace : List Event} {end : Ending} → RunFrom ds picks m ways trace end →
       (f : ℕ → Event) (n : ℕ) → ((i : ℕ) → n ≤ i → i < n + length trace → event_at trace (i - n) ≡ f i) → Know f n m → m.last ≡ last_runner f n →
       (i : ℕ) → n ≤ i → i < n + length trace → At f i
-  slots empty f n agree know la i p q = elim (let no : ⊥ = omega arith in no) [ ]
+  slots empty f n agree know la i p q = absurd (omega arith)
   slots (last_late {m = m} {way = way} {k = k} {c = c} {e = e} h) f n agree know la i p q =
       let here : event ds picks m way ≡ f n = at_zero (event ds picks m way) [] f n (agree n (omega arith) (omega arith)) in
       let ie : i ≡ n = omega arith in
@@ -199,7 +199,7 @@ module _ (ds : List TaskView) (picks : Picks) (proper : Proper ds) where
       Told f n (n + length trace) end
   follow empty f n agree know =
       let e : n ≡ n + 0 = omega arith in
-      record { laws = λ i p q. elim (let no : ⊥ = omega arith in no) [ ]; final = rw (sym e) (record { r_know = know; r_calm = λ i p q. elim (let no : ⊥ = omega arith in no) [ ] }) }
+      record { laws = λ i p q. absurd (omega arith); final = rw (sym e) (record { r_know = know; r_calm = λ i p q. absurd (omega arith) }) }
   follow (last_late {m = m} {way = way} {k = k} {c = c} {e = e} h) f n agree know =
       let here : event ds picks m way ≡ f n = at_zero (event ds picks m way) [] f n (agree n (omega arith) (omega arith)) in
       elim (late_went ds picks m way k c e h) [
@@ -210,14 +210,14 @@ module _ (ds : List TaskView) (picks : Picks) (proper : Proper ds) where
                   let ie : i ≡ n = omega arith in
                   let r' : of_task k' (f n).ended ≡ Some x = rw ie at r in
                   let r'' : None ≡ Some x = sym (ap (of_task k') w'.x_ended) ∙ r' in
-                  let z : ◌≡◌ {A = ℕ} 0 1 = cc in elim (let no : ⊥ = omega arith in no) [ ];
-              final = record { l_slot = n; l_is = refl; l_calm = λ i p q. elim (let no : ⊥ = omega arith in no) [ ]; l_state = m; l_way = way; l_know = know; l_late = inl w' };
+                  absurd (cc);
+              final = record { l_slot = n; l_is = refl; l_calm = λ i p q. absurd (omega arith); l_state = m; l_way = way; l_know = know; l_late = inl w' };
             }
         | inr w ↦
             let w' : Tardy ds picks m way (f n) k c = rw here at w in
             record {
               laws = λ i p q. let ie : i ≡ n = omega arith in rw ie (clear_law f n m way w'.clear know);
-              final = record { l_slot = n; l_is = refl; l_calm = λ i p q. elim (let no : ⊥ = omega arith in no) [ ]; l_state = m; l_way = way; l_know = know; l_late = inr w' };
+              final = record { l_slot = n; l_is = refl; l_calm = λ i p q. absurd (omega arith); l_state = m; l_way = way; l_know = know; l_late = inr w' };
             }
       ]
   follow (way_then {m = m} {m' = m'} {way = way} {e = e} {ways = ways} {trace = trace} {end = end} h g) f n agree know =
@@ -237,7 +237,7 @@ module _ (ds : List TaskView) (picks : Picks) (proper : Proper ds) where
   know_first f k d t = (
     record { position = d.stream.first; job = None },
     firsts_at ds (replicate 8 (record { position = 0; job = None })) (k - 1) d proper.few t.here,
-    record { closed = λ a p q. elim (let no : ⊥ = omega arith in no) [ ] },
+    record { closed = λ a p q. absurd (omega arith) },
   )
 
   pub slot_of : {ways : List ℕ} (trace : List Event) {end : Ending} → Run ds picks ways trace end → (i : ℕ) → i < length trace → At (event_at trace) i
@@ -257,7 +257,7 @@ responses_stand ds picks proper ways trace end r k d t n x h =
       | inr p ↦
           let e : event_at trace n ≡ blank = get_or_past trace n blank p in
           let h' : None ≡ Some x = sym (ap (λ s. response s k) e) ∙ h in
-          let z : ◌≡◌ {A = ℕ} 0 1 = cc in elim (let no : ⊥ = omega arith in no) [ ]
+          absurd (cc)
     ]
 
 -- what stands at the end

@@ -1,5 +1,5 @@
 -- What a slot does with the task at an index. Assumes nothing.
-use Rattle.std.proofs.Common.{◌≡◌, ℕ, zero, suc, ◌+◌, ◌%◌, ◌<◌, ◌≤◌, Bool, true, false, eqb, leb, List, [], ◌∷◌, length, get_or, is_some, Some, None, Option, sym, refl, ◌∙◌, inl, inr, arith, eq-eqb, ne_eqb, eqb-true}
+use Rattle.std.proofs.Common.{◌≡◌, ℕ, zero, suc, ◌+◌, ◌%◌, ◌<◌, ◌≤◌, Bool, true, false, eqb, leb, List, [], ◌∷◌, length, get_or, is_some, Some, None, Option, sym, refl, ap, ◌∙◌, inl, inr, arith, eq-eqb, ne_eqb, eqb-true}
 use Rattle.std.specs.List.{slice_get}
 use Rattle.std.proofs.lemmas.Bool.{cases_Bool, and_parts, both_ways}
 use Rattle.outcome.specs.declared.Ended.{Ended}
@@ -10,7 +10,7 @@ use Rattle.plans.specs.Tasks.{TaskView}
 use Rattle.dispatch.specs.declared.Seen.{Seen}
 use Rattle.slot.specs.Slot.{firsts}
 use Rattle.slot.specs.Work.{sees, age_of, serve, serve_job, serve_all, ended_by}
-use Rattle.runs.proofs.Releases.{given, overlap_is}
+use Rattle.runs.proofs.Releases.{given, overlap_is, arrives_is}
 use Rattle.runs.specs.Run.{of_task}
 use Rattle.slot.specs.Arrivals.{arrivals_in, overlaps}
 
@@ -23,46 +23,49 @@ pub record ArrivedAt (d : TaskView) (s : TaskState) (ds : List TaskView) (ss : L
   pub a_job : after.job ≡ given (get_or (arrivals_in ds ss a) i false) s.job
 
 pub arrived_at : (ds : List TaskView) (ss : List TaskState) (a i : ℕ) (d : TaskView) (s : TaskState) → slice_get ds i ≡ Some d → slice_get ss i ≡ Some s → ArrivedAt d s ds ss a i
-arrived_at [] ss a i d s hd hs = let z : ◌≡◌ {A = ℕ} 0 1 = cc in elim (let no : ⊥ = omega arith in no) [ ]
-arrived_at (e ∷ ds) [] a i d s hd hs = let z : ◌≡◌ {A = ℕ} 0 1 = cc in elim (let no : ⊥ = omega arith in no) [ ]
+arrived_at [] ss a i d s hd hs = absurd (cc)
+arrived_at (e ∷ ds) [] a i d s hd hs = absurd (cc)
 arrived_at (e ∷ ds) (t ∷ ss) a zero d s hd hs =
     let de : e ≡ d = cc in
     let se : t ≡ s = cc in
-    rw (sym de, sym se) (record { part = a; after = (come e t a).state; a_nth = refl; a_position = refl; a_shows = refl; a_job = refl })
+    let shows = arrives_is (e.stream.answer t.position (a % e.stream.ways t.position)).0 t.job in
+    rw (sym de, sym se) (record { part = a; after = (come e t a).state; a_nth = refl; a_position = refl; a_shows = shows; a_job = ap (λ b. given b t.job) (sym shows) })
 arrived_at (e ∷ ds) (t ∷ ss) a (suc i) d s hd hs =
     let r = arrived_at ds ss (come e t a).left i d s hd hs in
     record { part = r.part; after = r.after; a_nth = r.a_nth; a_position = r.a_position; a_shows = r.a_shows; a_job = r.a_job }
 
 none_is : (o : Option Job) → is_some o ≡ false → o ≡ None
 none_is None h = refl
-none_is (Some j) h = let z : ◌≡◌ {A = ℕ} 0 1 = cc in elim (let no : ⊥ = omega arith in no) [ ]
+none_is (Some j) h = absurd (cc)
 
 -- with no overlap, an arrival finds no job
-pub alone_at : (ds : List TaskView) (ss : List TaskState) (n a i : ℕ) (d : TaskView) (s : TaskState) → 1 ≤ n → overlapping n ds ss a ≡ 0 →
+pub alone_at : (ds : List TaskView) (ss : List TaskState) (n a i : ℕ) (d : TaskView) (s : TaskState) → overlapping n ds ss a ≡ None →
     slice_get ds i ≡ Some d → slice_get ss i ≡ Some s → get_or (arrivals_in ds ss a) i false ≡ true → s.job ≡ None
-alone_at [] ss n a i d s hn ho hd hs b = let z : ◌≡◌ {A = ℕ} 0 1 = cc in elim (let no : ⊥ = omega arith in no) [ ]
-alone_at (e ∷ ds) [] n a i d s hn ho hd hs b = let z : ◌≡◌ {A = ℕ} 0 1 = cc in elim (let no : ⊥ = omega arith in no) [ ]
-alone_at (e ∷ ds) (t ∷ ss) n a zero d s hn ho hd hs b =
+alone_at [] ss n a i d s ho hd hs b = absurd (cc)
+alone_at (e ∷ ds) [] n a i d s ho hd hs b = absurd (cc)
+alone_at (e ∷ ds) (t ∷ ss) n a zero d s ho hd hs b =
+    let came = (e.stream.answer t.position (a % e.stream.ways t.position)).0 in
     elim (cases_Bool (overlaps (come e t a).release)) [
-      | inl y ↦ let z : n ≡ 0 = rw y at ho in elim (let no : ⊥ = omega arith in no) [ ]
+      | inl y ↦ let z : Some n ≡ None = rw y at ho in absurd (cc)
       | inr y ↦
-          let y' = sym (overlap_is (come e t a).arrives t.job) ∙ y in
-          let q : is_some t.job ≡ false = rw b at y' in
+          let b' : came ≡ true = sym (arrives_is came t.job) ∙ b in
+          let y' = sym (overlap_is came t.job) ∙ y in
+          let q : is_some t.job ≡ false = rw b' at y' in
           let se : t ≡ s = cc in
           rw (sym se) (none_is t.job q)
     ]
-alone_at (e ∷ ds) (t ∷ ss) n a (suc i) d s hn ho hd hs b =
+alone_at (e ∷ ds) (t ∷ ss) n a (suc i) d s ho hd hs b =
     elim (cases_Bool (overlaps (come e t a).release)) [
-      | inl y ↦ let z : n ≡ 0 = rw y at ho in elim (let no : ⊥ = omega arith in no) [ ]
+      | inl y ↦ let z : Some n ≡ None = rw y at ho in absurd (cc)
       | inr y ↦
-          let ho' : overlapping (n + 1) ds ss (come e t a).left ≡ 0 = rw y at ho in
-          alone_at ds ss (n + 1) (come e t a).left i d s (omega arith) ho' hd hs b
+          let ho' : overlapping (n + 1) ds ss (come e t a).left ≡ None = rw y at ho in
+          alone_at ds ss (n + 1) (come e t a).left i d s ho' hd hs b
     ]
 
 pub serve_all_at : (ds : List TaskView) (ss : List TaskState) (pick : ℕ) (stay : Bool) (n i k : ℕ) (d : TaskView) (s : TaskState) → k ≡ n + i →
     slice_get ds i ≡ Some d → slice_get ss i ≡ Some s → slice_get (serve_all pick stay n ds ss).tasks i ≡ Some (serve (eqb k pick) stay d s).state
-serve_all_at [] ss pick stay n i k d s hk hd hs = let z : ◌≡◌ {A = ℕ} 0 1 = cc in elim (let no : ⊥ = omega arith in no) [ ]
-serve_all_at (e ∷ ds) [] pick stay n i k d s hk hd hs = let z : ◌≡◌ {A = ℕ} 0 1 = cc in elim (let no : ⊥ = omega arith in no) [ ]
+serve_all_at [] ss pick stay n i k d s hk hd hs = absurd (cc)
+serve_all_at (e ∷ ds) [] pick stay n i k d s hk hd hs = absurd (cc)
 serve_all_at (e ∷ ds) (t ∷ ss) pick stay n zero k d s hk hd hs =
     let ke : k ≡ n = omega arith in
     let de : e ≡ d = cc in
@@ -94,8 +97,8 @@ of_silent n k r e h = rw h refl
 
 pub ended_at : (ds : List TaskView) (ss : List TaskState) (pick : ℕ) (stay : Bool) (n i k : ℕ) (d : TaskView) (s : TaskState) → k ≡ n + i →
     slice_get ds i ≡ Some d → slice_get ss i ≡ Some s → of_task k (serve_all pick stay n ds ss).ended ≡ (serve (eqb k pick) stay d s).response
-ended_at [] ss pick stay n i k d s hk hd hs = let z : ◌≡◌ {A = ℕ} 0 1 = cc in elim (let no : ⊥ = omega arith in no) [ ]
-ended_at (e ∷ ds) [] pick stay n i k d s hk hd hs = let z : ◌≡◌ {A = ℕ} 0 1 = cc in elim (let no : ⊥ = omega arith in no) [ ]
+ended_at [] ss pick stay n i k d s hk hd hs = absurd (cc)
+ended_at (e ∷ ds) [] pick stay n i k d s hk hd hs = absurd (cc)
 ended_at (e ∷ ds) (t ∷ ss) pick stay n zero k d s hk hd hs =
     let ke : k ≡ n = omega arith in
     let de : e ≡ d = cc in
@@ -112,34 +115,34 @@ ended_at (e ∷ ds) (t ∷ ss) pick stay n (suc i) k d s hk hd hs =
           of_silent n k (serve (eqb n pick) stay e t).response (serve_all pick stay (n + 1) ds ss).ended (rw y (idle_response stay e t.position t.job)) ∙ ih
     ]
 
-pub timely_at : (ds : List TaskView) (ss : List TaskState) (pick : ℕ) (stay : Bool) (n i k : ℕ) (d : TaskView) (s : TaskState) → k ≡ n + i → 1 ≤ n →
-    slice_get ds i ≡ Some d → slice_get ss i ≡ Some s → (serve_all pick stay n ds ss).late ≡ 0 → (serve (eqb k pick) stay d s).late ≡ false
-timely_at [] ss pick stay n i k d s hk hn hd hs h = let z : ◌≡◌ {A = ℕ} 0 1 = cc in elim (let no : ⊥ = omega arith in no) [ ]
-timely_at (e ∷ ds) [] pick stay n i k d s hk hn hd hs h = let z : ◌≡◌ {A = ℕ} 0 1 = cc in elim (let no : ⊥ = omega arith in no) [ ]
-timely_at (e ∷ ds) (t ∷ ss) pick stay n zero k d s hk hn hd hs h =
+pub timely_at : (ds : List TaskView) (ss : List TaskState) (pick : ℕ) (stay : Bool) (n i k : ℕ) (d : TaskView) (s : TaskState) → k ≡ n + i →
+    slice_get ds i ≡ Some d → slice_get ss i ≡ Some s → (serve_all pick stay n ds ss).late ≡ None → (serve (eqb k pick) stay d s).late ≡ false
+timely_at [] ss pick stay n i k d s hk hd hs h = absurd (cc)
+timely_at (e ∷ ds) [] pick stay n i k d s hk hd hs h = absurd (cc)
+timely_at (e ∷ ds) (t ∷ ss) pick stay n zero k d s hk hd hs h =
     let ke : k ≡ n = omega arith in
     let de : e ≡ d = cc in
     let se : t ≡ s = cc in
     elim (cases_Bool (serve (eqb n pick) stay e t).late) [
-      | inl y ↦ let z : n ≡ 0 = rw y at h in elim (let no : ⊥ = omega arith in no) [ ]
+      | inl y ↦ let z : Some n ≡ None = rw y at h in absurd (cc)
       | inr y ↦ rw (ke, sym de, sym se) y
     ]
-timely_at (e ∷ ds) (t ∷ ss) pick stay n (suc i) k d s hk hn hd hs h =
+timely_at (e ∷ ds) (t ∷ ss) pick stay n (suc i) k d s hk hd hs h =
     elim (cases_Bool (serve (eqb n pick) stay e t).late) [
-      | inl y ↦ let z : n ≡ 0 = rw y at h in elim (let no : ⊥ = omega arith in no) [ ]
-      | inr y ↦ let h' : (serve_all pick stay (n + 1) ds ss).late ≡ 0 = rw y at h in timely_at ds ss pick stay (n + 1) i k d s (omega arith) (omega arith) hd hs h'
+      | inl y ↦ let z : Some n ≡ None = rw y at h in absurd (cc)
+      | inr y ↦ let h' : (serve_all pick stay (n + 1) ds ss).late ≡ None = rw y at h in timely_at ds ss pick stay (n + 1) i k d s (omega arith) hd hs h'
     ]
 
 pub firsts_at : (ds : List TaskView) (ss : List TaskState) (i : ℕ) (d : TaskView) → length ds ≤ length ss → slice_get ds i ≡ Some d →
     slice_get (firsts ds ss) i ≡ Some (record { position = d.stream.first; job = None })
-firsts_at [] ss i d h hd = let z : ◌≡◌ {A = ℕ} 0 1 = cc in elim (let no : ⊥ = omega arith in no) [ ]
-firsts_at (e ∷ ds) [] i d h hd = elim (let no : ⊥ = omega arith in no) [ ]
+firsts_at [] ss i d h hd = absurd (cc)
+firsts_at (e ∷ ds) [] i d h hd = absurd (omega arith)
 firsts_at (e ∷ ds) (t ∷ ss) zero d h hd = let de : e ≡ d = cc in rw (sym de) refl
 firsts_at (e ∷ ds) (t ∷ ss) (suc i) d h hd = firsts_at ds ss i d (omega arith) hd
 
 some_is : (o : Option Job) → is_some o ≡ true → o ≡ None → ⊥
-some_is None h e = let z : ◌≡◌ {A = ℕ} 0 1 = cc in omega arith
-some_is (Some j) h e = let z : ◌≡◌ {A = ℕ} 0 1 = cc in omega arith
+some_is None h e = cc
+some_is (Some j) h e = cc
 
 -- the first task whose arrival overlaps
 pub record Crossing (ds : List TaskView) (ss : List TaskState) (n a k : ℕ) : Type 0 where
@@ -153,14 +156,16 @@ pub record Crossing (ds : List TaskView) (ss : List TaskState) (n a k : ℕ) : T
   pub x_has : x_state.job ≡ None → ⊥
   pub x_first : (i : ℕ) (d : TaskView) (s : TaskState) → i < x_index → slice_get ds i ≡ Some d → slice_get ss i ≡ Some s → get_or (arrivals_in ds ss a) i false ≡ true → s.job ≡ None
 
-pub crossing : (ds : List TaskView) (ss : List TaskState) (n a k : ℕ) → overlapping n ds ss a ≡ k → (k ≡ 0 → ⊥) → Crossing ds ss n a k
-crossing [] ss n a k h z = elim (z (sym h)) [ ]
-crossing (e ∷ ds) [] n a k h z = elim (z (sym h)) [ ]
-crossing (e ∷ ds) (t ∷ ss) n a k h z =
+pub crossing : (ds : List TaskView) (ss : List TaskState) (n a k : ℕ) → overlapping n ds ss a ≡ Some k → Crossing ds ss n a k
+crossing [] ss n a k h = absurd (cc)
+crossing (e ∷ ds) [] n a k h = absurd (cc)
+crossing (e ∷ ds) (t ∷ ss) n a k h =
+    let came = (e.stream.answer t.position (a % e.stream.ways t.position)).0 in
     elim (cases_Bool (overlaps (come e t a).release)) [
       | inl y ↦
-          let q : n ≡ k = rw y at h in
-          let b = and_parts (come e t a).arrives (is_some t.job) (sym (overlap_is (come e t a).arrives t.job) ∙ y) in
+          let q' : Some n ≡ Some k = rw y at h in
+          let q : n ≡ k = cc in
+          let b = and_parts came (is_some t.job) (sym (overlap_is came t.job) ∙ y) in
           record {
             x_index = 0;
             x_number = omega arith;
@@ -168,13 +173,13 @@ crossing (e ∷ ds) (t ∷ ss) n a k h z =
             x_state = t;
             x_in_views = refl;
             x_in_tasks = refl;
-            x_arrives = b.0;
+            x_arrives = arrives_is came t.job ∙ b.0;
             x_has = some_is t.job b.1;
-            x_first = λ i d s p. elim (let no : ⊥ = omega arith in no) [ ];
+            x_first = λ i d s p. absurd (omega arith);
           }
       | inr y ↦
-          let h' : overlapping (n + 1) ds ss (come e t a).left ≡ k = rw y at h in
-          let r = crossing ds ss (n + 1) (come e t a).left k h' z in
+          let h' : overlapping (n + 1) ds ss (come e t a).left ≡ Some k = rw y at h in
+          let r = crossing ds ss (n + 1) (come e t a).left k h' in
           record {
             x_index = suc r.x_index;
             x_number = omega (arith, r.x_number);
@@ -186,8 +191,9 @@ crossing (e ∷ ds) (t ∷ ss) n a k h z =
             x_has = r.x_has;
             x_first = elim [
               | zero ↦ λ d s p hd hs b.
-                  let y' = sym (overlap_is (come e t a).arrives t.job) ∙ y in
-                  let q : is_some t.job ≡ false = rw b at y' in
+                  let b' : came ≡ true = sym (arrives_is came t.job) ∙ b in
+                  let y' = sym (overlap_is came t.job) ∙ y in
+                  let q : is_some t.job ≡ false = rw b' at y' in
                   let se : t ≡ s = cc in
                   rw (sym se) (none_is t.job q)
               | suc i ↦ λ d s p hd hs b. r.x_first i d s (omega arith) hd hs b
@@ -206,13 +212,14 @@ pub record StayingJob (ds : List TaskView) (ss : List TaskState) (pick : ℕ) (s
   pub y_late : (serve (eqb k pick) stay y_view y_state).late ≡ true
   pub y_first : (i j : ℕ) (d : TaskView) (s : TaskState) → i < y_index → j ≡ n + i → slice_get ds i ≡ Some d → slice_get ss i ≡ Some s → (serve (eqb j pick) stay d s).late ≡ false
 
-pub staying_job : (ds : List TaskView) (ss : List TaskState) (pick : ℕ) (stay : Bool) (n k : ℕ) → (serve_all pick stay n ds ss).late ≡ k → (k ≡ 0 → ⊥) → StayingJob ds ss pick stay n k
-staying_job [] ss pick stay n k h z = elim (z (sym h)) [ ]
-staying_job (e ∷ ds) [] pick stay n k h z = elim (z (sym h)) [ ]
-staying_job (e ∷ ds) (t ∷ ss) pick stay n k h z =
+pub staying_job : (ds : List TaskView) (ss : List TaskState) (pick : ℕ) (stay : Bool) (n k : ℕ) → (serve_all pick stay n ds ss).late ≡ Some k → StayingJob ds ss pick stay n k
+staying_job [] ss pick stay n k h = absurd (cc)
+staying_job (e ∷ ds) [] pick stay n k h = absurd (cc)
+staying_job (e ∷ ds) (t ∷ ss) pick stay n k h =
     elim (cases_Bool (serve (eqb n pick) stay e t).late) [
       | inl y ↦
-          let q : n ≡ k = rw y at h in
+          let q' : Some n ≡ Some k = rw y at h in
+          let q : n ≡ k = cc in
           record {
             y_index = 0;
             y_number = omega arith;
@@ -221,11 +228,11 @@ staying_job (e ∷ ds) (t ∷ ss) pick stay n k h z =
             y_in_views = refl;
             y_in_tasks = refl;
             y_late = rw (sym q) y;
-            y_first = λ i j d s p. elim (let no : ⊥ = omega arith in no) [ ];
+            y_first = λ i j d s p. absurd (omega arith);
           }
       | inr y ↦
-          let h' : (serve_all pick stay (n + 1) ds ss).late ≡ k = rw y at h in
-          let r = staying_job ds ss pick stay (n + 1) k h' z in
+          let h' : (serve_all pick stay (n + 1) ds ss).late ≡ Some k = rw y at h in
+          let r = staying_job ds ss pick stay (n + 1) k h' in
           record {
             y_index = suc r.y_index;
             y_number = omega (arith, r.y_number);
@@ -247,8 +254,8 @@ staying_job (e ∷ ds) (t ∷ ss) pick stay n k h z =
 
 pub sees_at : (ds : List TaskView) (ss : List TaskState) (i : ℕ) (d : TaskView) (s : TaskState) → slice_get ds i ≡ Some d → slice_get ss i ≡ Some s →
     slice_get (sees ds ss) i ≡ Some (record { priority = d.priority; age = age_of s.job })
-sees_at [] ss i d s hd hs = let z : ◌≡◌ {A = ℕ} 0 1 = cc in elim (let no : ⊥ = omega arith in no) [ ]
-sees_at (e ∷ ds) [] i d s hd hs = let z : ◌≡◌ {A = ℕ} 0 1 = cc in elim (let no : ⊥ = omega arith in no) [ ]
+sees_at [] ss i d s hd hs = absurd (cc)
+sees_at (e ∷ ds) [] i d s hd hs = absurd (cc)
 sees_at (e ∷ ds) (t ∷ ss) zero d s hd hs =
     let de : e ≡ d = cc in
     let se : t ≡ s = cc in
@@ -256,8 +263,8 @@ sees_at (e ∷ ds) (t ∷ ss) zero d s hd hs =
 sees_at (e ∷ ds) (t ∷ ss) (suc i) d s hd hs = sees_at ds ss i d s hd hs
 
 pub sees_only : (ds : List TaskView) (ss : List TaskState) (i : ℕ) (t : Seen) → slice_get (sees ds ss) i ≡ Some t → (d : TaskView) × (slice_get ds i ≡ Some d)
-sees_only [] ss i t h = let z : ◌≡◌ {A = ℕ} 0 1 = cc in elim (let no : ⊥ = omega arith in no) [ ]
-sees_only (e ∷ ds) [] i t h = let z : ◌≡◌ {A = ℕ} 0 1 = cc in elim (let no : ⊥ = omega arith in no) [ ]
+sees_only [] ss i t h = absurd (cc)
+sees_only (e ∷ ds) [] i t h = absurd (cc)
 sees_only (e ∷ ds) (s ∷ ss) zero t h = (e, refl)
 sees_only (e ∷ ds) (s ∷ ss) (suc i) t h = sees_only ds ss i t h
 
@@ -285,8 +292,8 @@ choose_all (e ∷ ds) (t ∷ ss) pick a b n =
 
 pub choose_at : (ds : List TaskView) (ss : List TaskState) (pick : ℕ) (stay : Bool) (n i k : ℕ) (d : TaskView) (s : TaskState) → k ≡ n + i →
     slice_get ds i ≡ Some d → slice_get ss i ≡ Some s → (serve (eqb k pick) stay d s).may_choose ≡ true → (serve_all pick stay n ds ss).may_choose ≡ true
-choose_at [] ss pick stay n i k d s hk hd hs h = let z : ◌≡◌ {A = ℕ} 0 1 = cc in elim (let no : ⊥ = omega arith in no) [ ]
-choose_at (e ∷ ds) [] pick stay n i k d s hk hd hs h = let z : ◌≡◌ {A = ℕ} 0 1 = cc in elim (let no : ⊥ = omega arith in no) [ ]
+choose_at [] ss pick stay n i k d s hk hd hs h = absurd (cc)
+choose_at (e ∷ ds) [] pick stay n i k d s hk hd hs h = absurd (cc)
 choose_at (e ∷ ds) (t ∷ ss) pick stay n zero k d s hk hd hs h =
     let ke : k ≡ n = omega arith in
     let de : e ≡ d = cc in

@@ -60,7 +60,7 @@ told_job f k d t a n p stay o (Some j) e l fr w r h g =
 
 module _ (ds : List TaskView) (picks : Picks) (proper : Proper ds) where
   clear_obeyed : (f : ℕ → Event) (n : ℕ) (m : StateView) (way : ℕ) (wish : Bool) → Clear ds picks m way (f n) → Know ds picks proper f n m →
-      (over ds picks m way ≡ 0 → (round ds picks m way).may_choose ≡ true → stays ds picks m way ≡ wish) → Obeyed ds f wish n
+      (over ds picks m way ≡ None → (round ds picks m way).may_choose ≡ true → stays ds picks m way ≡ wish) → Obeyed ds f wish n
   clear_obeyed f n m way wish c know ob k d a t w r h g =
       let x = did ds picks proper f n m way c know k d t in
       let st = stays ds picks m way in
@@ -76,7 +76,7 @@ module _ (ds : List TaskView) (picks : Picks) (proper : Proper ds) where
   pub obeyed : {m : StateView} {ways : List ℕ} {trace : List Event} {end : Ending} → RunFrom ds picks m ways trace end →
       (f : ℕ → Event) (wish : ℕ → Bool) (n : ℕ) → ((i : ℕ) → n ≤ i → i < n + length trace → event_at trace (i - n) ≡ f i) → Know ds picks proper f n m →
       Obeys ds picks wish n m ways → (i : ℕ) → n ≤ i → i < n + length trace → Obeyed ds f (wish i) i
-  obeyed empty f wish n agree know ob i p q = elim (let no : ⊥ = omega arith in no) [ ]
+  obeyed empty f wish n agree know ob i p q = absurd (omega arith)
   obeyed (last_late {m = m} {way = way} {k = k} {c = c} {e = e} h) f wish n agree know ob i p q =
       let here : event ds picks m way ≡ f n = at_zero (event ds picks m way) [] f n (agree n (omega arith) (omega arith)) in
       let ie : i ≡ n = omega arith in

@@ -21,7 +21,7 @@ pub enum Stop {
     End { state: State },
 }
 
-// How many slots were walked, and why no more.
+// How many slots were walked, and why no more. The trace is lent, since the library has no heap, so its length stands beside it.
 #[derive(Clone, Copy)]
 pub struct Replayed {
     pub slots: usize,
@@ -29,6 +29,7 @@ pub struct Replayed {
 }
 
 // Walks a list of ways from the start and writes what each slot shows.
+// Plan and rule go in apart: `Schedule` joins them above, where tables are, and no layer knows those above it.
 pub fn replay<S: Stream, D: Dispatch>(
     plan: &Plan<S>,
     rule: &D,
@@ -40,9 +41,9 @@ pub fn replay<S: Stream, D: Dispatch>(
 {
     let mut state = start::start(plan);
     let most = ways.len().min(trace.len());
-    for i in 0..most {
-        let event = walk::observe(plan, rule, &state, ways[i]);
-        match walk::walk(plan, rule, &state, ways[i]) {
+    for (i, way) in ways[..most].iter().enumerate() {
+        let event = walk::observe(plan, rule, &state, *way);
+        match walk::walk(plan, rule, &state, *way) {
             Outcome::Void => return Replayed {
                 slots: i,
                 stop: Stop::Void,

@@ -1,5 +1,5 @@
--- A slot that is not late keeps work and age within bounds. Assumes nothing.
-use Rattle.std.proofs.Common.{◌≡◌, ℕ, ◌+◌, ◌≤◌, Bool, true, false, eqb, leb, List, [], ◌∷◌, Some, None, Option, refl, inl, inr, arith, le-leb, leb-false, leb-true}
+-- The start, the arrivals, and a slot that is not late keep work and age within bounds. Assumes nothing.
+use Rattle.std.proofs.Common.{◌≡◌, ℕ, ◌+◌, ◌≤◌, Bool, true, false, ◌||◌, is_some, eqb, leb, List, [], ◌∷◌, Some, None, Option, refl, inl, inr, arith, le-leb, leb-false, leb-true}
 use Rattle.std.proofs.lemmas.Bool.{cases_Bool, and_parts, and_from}
 use Rattle.streams.specs.Meaning.{Meaning}
 use Rattle.plans.specs.declared.plan.Task.{Task}
@@ -9,6 +9,9 @@ use Rattle.plans.specs.Limits.{deadline_limit}
 use Rattle.slot.specs.Bounded.{JobBounded, Bounded, job_bounded, bounded}
 use Rattle.plans.specs.Tasks.{TaskView, task_views}
 use Rattle.slot.specs.Slot.{firsts}
+use Rattle.slot.specs.Arrivals.{come, arrived, job_after}
+use Rattle.slot.specs.declared.arrive.Release.{Release}
+use Rattle.slot.specs.declared.arrive.Release.TheVariants.{Quiet, NewJob, Overlapping}
 use Rattle.slot.specs.Work.{serve, serve_job, serve_all}
 
 test_job_bounded : (o : Option Job) → job_bounded o ≡ true → JobBounded o
@@ -55,21 +58,39 @@ serve_bounded true stay d p (Some j) hm hd b h =
           ]
     ]
 
-pub bounded_all : (ds : List TaskView) (ss : List TaskState) (pick : ℕ) (stay : Bool) (n : ℕ) → Sane ds → 1 ≤ n → Bounded ss →
-    (serve_all pick stay n ds ss).late ≡ 0 → Bounded (serve_all pick stay n ds ss).tasks
-bounded_all [] ss pick stay n sn hn h z = h
-bounded_all (d ∷ ds) [] pick stay n sn hn h z = tt
-bounded_all (d ∷ ds) (s ∷ ss) pick stay n sn hn h z =
+pub bounded_all : (ds : List TaskView) (ss : List TaskState) (pick : ℕ) (stay : Bool) (n : ℕ) → Sane ds → Bounded ss →
+    (serve_all pick stay n ds ss).late ≡ None → Bounded (serve_all pick stay n ds ss).tasks
+bounded_all [] ss pick stay n sn h z = h
+bounded_all (d ∷ ds) [] pick stay n sn h z = tt
+bounded_all (d ∷ ds) (s ∷ ss) pick stay n sn h z =
     elim (cases_Bool (serve (eqb n pick) stay d s).late) [
-      | inl y ↦ let no : n ≡ 0 = rw y at z in elim (let no' : ⊥ = omega arith in no') [ ]
+      | inl y ↦ let no : Some n ≡ None = rw y at z in absurd (cc)
       | inr y ↦
-          let z' : (serve_all pick stay (n + 1) ds ss).late ≡ 0 = rw y at z in (
+          let z' : (serve_all pick stay (n + 1) ds ss).late ≡ None = rw y at z in (
             serve_bounded (eqb n pick) stay d s.position s.job sn.0 sn.1 h.0 y,
-            bounded_all ds ss pick stay (n + 1) sn.2 (omega arith) h.1 z',
+            bounded_all ds ss pick stay (n + 1) sn.2 h.1 z',
           )
     ]
+
+-- as the ghost field of a round has it
+pub round_bounded : (o : Option ℕ) (ss : List TaskState) → (o ≡ None → Bounded ss) → (is_some o || bounded ss) ≡ true
+round_bounded None ss h = bounded_test ss (h refl)
+round_bounded (Some k) ss h = refl
 
 pub bounded_firsts : (ds : List TaskView) (ss : List TaskState) → bounded ss ≡ true → bounded (firsts ds ss) ≡ true
 bounded_firsts [] ss h = h
 bounded_firsts (d ∷ ds) [] h = refl
 bounded_firsts (d ∷ ds) (s ∷ ss) h = bounded_firsts ds ss (and_parts (job_bounded s.job) (bounded ss) h).1
+
+release_bounded : (r : Release) (o : Option Job) → JobBounded o → JobBounded (job_after r o)
+release_bounded Quiet o h = h
+release_bounded NewJob o h = (omega arith, omega arith)
+release_bounded Overlapping o h = h
+
+arrivals_bounded : (ds : List TaskView) (ss : List TaskState) (a : ℕ) → Bounded ss → Bounded (arrived ds ss a)
+arrivals_bounded [] ss a h = h
+arrivals_bounded (d ∷ ds) [] a h = tt
+arrivals_bounded (d ∷ ds) (s ∷ ss) a h = (release_bounded _ s.job h.0, arrivals_bounded ds ss (come d s a).left h.1)
+
+pub bounded_arrived : (ds : List TaskView) (ss : List TaskState) (a : ℕ) → bounded ss ≡ true → bounded (arrived ds ss a) ≡ true
+bounded_arrived ds ss a h = bounded_test (arrived ds ss a) (arrivals_bounded ds ss a (test_bounded ss h))

@@ -1,5 +1,5 @@
 -- A work-conserving rule picks one of the tasks that it sees, or 0. Assumes nothing.
-use Rattle.std.proofs.Common.{◌≡◌, ℕ, zero, suc, ◌<◌, ◌≤◌, true, false, ◌⊎◌, List, [], ◌∷◌, length, is_some, refl, inl, inr, arith}
+use Rattle.std.proofs.Common.{◌≡◌, ℕ, zero, suc, ◌<◌, ◌≤◌, true, false, ◌⊎◌, List, [], ◌∷◌, length, take, is_some, refl, inl, inr, arith, length-take}
 use borrow.Author.Tests.{clash}
 use Rattle.std.proofs.lemmas.Bool.{cases_Bool}
 use Rattle.dispatch.specs.declared.Seen.{Seen}
@@ -30,9 +30,16 @@ no_one : (ts : List Seen) → ((i : ℕ) → job_at ts i ≡ false) → (n : ℕ
 no_one ts h zero = refl
 no_one ts h (suc i) = h i
 
-pub picks_few : (picks : Picks) → WorkConserving picks → (ts : List Seen) (last : ℕ) → picks ts last ≤ length ts
+picks_few : (picks : Picks) → WorkConserving picks → (ts : List Seen) (last : ℕ) → picks ts last ≤ length ts
 picks_few picks conserves ts last =
     elim (some_job ts) [
       | inl h ↦ within ts (picks ts last) (conserves.busy ts last (suc h.0) h.1)
       | inr h ↦ let z = conserves.idle ts last (no_one ts h) in omega arith
     ]
+
+-- so of eight places it picks a number up to 8
+pub picked_few : (picks : Picks) → WorkConserving picks → (n : ℕ) (ts : List Seen) (last k : ℕ) → length ts ≡ 8 → k ≡ picks (take n ts) last → k ≤ 8
+picked_few picks conserves n ts last k long e =
+    let h = picks_few picks conserves (take n ts) last in
+    let l = length-take n ts in
+    omega arith

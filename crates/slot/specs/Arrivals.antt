@@ -24,6 +24,11 @@ job_after Quiet o = o
 job_after NewJob o = Some (record { work = 0; age = 0 })
 job_after Overlapping o = o
 
+abbrev pub arrives : Release → Bool
+arrives Quiet = false
+arrives NewJob = true
+arrives Overlapping = true
+
 abbrev pub overlaps : Release → Bool
 overlaps Quiet = false
 overlaps NewJob = false
@@ -35,7 +40,6 @@ come t s a =
     let ways = t.stream.ways s.position in
     let answer = t.stream.answer s.position (a % ways) in
     record {
-      arrives = answer.0;
       release = release_of answer.0 s.job;
       state = record { position = answer.1; job = job_after (release_of answer.0 s.job) s.job };
       left = a / ways;
@@ -51,10 +55,10 @@ arrived (t ∷ ts) (s ∷ ss) a = (come t s a).state ∷ arrived ts ss (come t s
 abbrev pub arrivals_in : List TaskView → List TaskState → ℕ → List Bool
 arrivals_in [] ss a = map (λ _. false) ss
 arrivals_in (t ∷ ts) [] a = []
-arrivals_in (t ∷ ts) (s ∷ ss) a = (come t s a).arrives ∷ arrivals_in ts ss (come t s a).left
+arrivals_in (t ∷ ts) (s ∷ ss) a = arrives (come t s a).release ∷ arrivals_in ts ss (come t s a).left
 
--- The first task, counted from n, whose arrival overlaps; 0 for none.
-abbrev pub overlapping : ℕ → List TaskView → List TaskState → ℕ → ℕ
-overlapping n [] ss a = 0
-overlapping n (t ∷ ts) [] a = 0
-overlapping n (t ∷ ts) (s ∷ ss) a = cond (overlaps (come t s a).release) n (overlapping (n + 1) ts ss (come t s a).left)
+-- The first task, counted from n, whose arrival overlaps.
+abbrev pub overlapping : ℕ → List TaskView → List TaskState → ℕ → Option ℕ
+overlapping n [] ss a = None
+overlapping n (t ∷ ts) [] a = None
+overlapping n (t ∷ ts) (s ∷ ss) a = cond (overlaps (come t s a).release) (Some n) (overlapping (n + 1) ts ss (come t s a).left)

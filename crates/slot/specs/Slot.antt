@@ -1,17 +1,19 @@
 -- One slot: the arrivals, the pick, the work, the ages and the deadlines.
-use Rattle.std.specs.Prelude.{ℕ, ◌*◌, ◌/◌, ◌%◌, Bool, cond, not, ◌&&◌, List, [], ◌∷◌, replicate, Some, None, Option, ◌==◌, nat_eq, nat_lt}
+use Rattle.std.specs.Prelude.{ℕ, ◌*◌, ◌/◌, ◌%◌, Bool, cond, not, ◌&&◌, List, [], ◌∷◌, replicate, is_some, Some, None, Option, nat_eq, nat_lt}
+use Rattle.std.specs.Option.{option_map_or}
 use Rattle.dispatch.specs.Picks.{Picks}
 use Rattle.outcome.specs.declared.Cause.TheVariants.{Overlap, Deadline}
 use Rattle.outcome.specs.declared.Ended.{Ended}
 use Rattle.outcome.specs.declared.Outcome.{Outcome}
 use Rattle.outcome.specs.declared.Outcome.TheVariants.{Void, Late, Next}
+use Rattle.outcome.specs.Outcomes.{outcome_by}
+pub use Rattle.outcome.specs.Outcomes.{ended_in}
 use Rattle.slot.specs.declared.state.TaskState.{TaskState}
 use Rattle.slot.specs.declared.state.State.{State}
 use Rattle.slot.specs.declared.event.Event.{Event}
-use Rattle.slot.specs.declared.work.Round.{Round}
 use Rattle.plans.specs.Tasks.{TaskView}
 use Rattle.slot.specs.Arrivals.{choices, arrived, arrivals_in, overlapping}
-use Rattle.slot.specs.Work.{sees, serve_all}
+use Rattle.slot.specs.Work.{RoundView, sees, serve_all}
 
 -- A state without the bounds that its type keeps.
 pub record StateView : Type 0 where
@@ -23,9 +25,7 @@ state_view s = record { tasks = s.tasks; last = s.last }
 
 -- An outcome, by the view of its state.
 abbrev pub outcome_view : Outcome State → Outcome StateView
-outcome_view Void = Void
-outcome_view (Late task cause ended) = Late task cause ended
-outcome_view (Next state ended) = Next (state_view state) ended
+outcome_view = outcome_by state_view
 
 -- The start: streams at their first positions, with no job, and no last runner; free places stand at 0.
 abbrev pub firsts : List TaskView → List TaskState → List TaskState
@@ -41,11 +41,10 @@ abbrev pub runner_after : ℕ → Option Ended → ℕ
 runner_after pick None = pick
 runner_after pick (Some e) = 0
 
-abbrev pub settled : Bool → ℕ → Round → Outcome StateView
+abbrev pub settled : Bool → ℕ → RoundView → Outcome StateView
 settled stay pick r =
     cond (stay && not r.may_choose) Void
-    (cond (r.late == 0) (Next (record { tasks = r.tasks; last = runner_after pick r.ended }) r.ended)
-    (Late r.late Deadline r.ended))
+    (option_map_or (λ task. Late task Deadline r.ended) r.late (Next (record { tasks = r.tasks; last = runner_after pick r.ended }) r.ended))
 
 -- The whole slot, at the way a + A f: the streams take the ways of a, and f = 1 means that the picked job stays where it
 -- may choose.
@@ -58,21 +57,16 @@ slot ts picks m way =
     let over = overlapping 1 ts m.tasks a in
     let pick = picks (sees ts tasks) m.last in
     cond (nat_lt way (2 * all))
-    (cond (over == 0) (settled stay pick (serve_all pick stay 1 ts tasks)) (cond stay Void (Late over Overlap None)))
+    (option_map_or (λ task. cond stay Void (Late task Overlap None)) over (settled stay pick (serve_all pick stay 1 ts tasks)))
     Void
 
 -- What the slot of a way shows: who has an arrival, the task picked (0 for none, and in a slot with an overlap), and the
 -- job that ends.
-abbrev pub ended_in : Outcome StateView → Option Ended
-ended_in Void = None
-ended_in (Late t c e) = e
-ended_in (Next m e) = e
-
 unfoldable pub event : List TaskView → Picks → StateView → ℕ → Event
 event ts picks m way =
     let a = way % choices ts m.tasks in
     record {
       arrivals = arrivals_in ts m.tasks a;
-      picked = cond (overlapping 1 ts m.tasks a == 0) (picks (sees ts (arrived ts m.tasks a)) m.last) 0;
+      picked = cond (is_some (overlapping 1 ts m.tasks a)) 0 (picks (sees ts (arrived ts m.tasks a)) m.last);
       ended = ended_in (slot ts picks m way);
     }

@@ -5,7 +5,7 @@ use Rattle.outcome.specs.declared.Ended.{Ended}
 use Rattle.slot.specs.declared.state.Job.{Job}
 use Rattle.slot.specs.declared.state.TaskState.{TaskState}
 use Rattle.slot.specs.declared.work.Served.{Served}
-use Rattle.slot.specs.declared.work.Round.{Round}
+use Rattle.slot.specs.declared.round.Round.{Round}
 use Rattle.plans.specs.Tasks.{TaskView}
 
 -- What the rule sees of the tasks.
@@ -51,14 +51,24 @@ serve_job picked stay t position (Some j) = cond picked (works stay t position j
 abbrev pub serve : Bool → Bool → TaskView → TaskState → Served
 serve picked stay t s = serve_job picked stay t s.position s.job
 
+-- A round without the bounds that its type keeps.
+pub record RoundView : Type 0 where
+  pub tasks : List TaskState
+  pub ended : Option Ended
+  pub may_choose : Bool
+  pub late : Option ℕ
+
+abbrev pub round_view : Round → RoundView
+round_view r = record { tasks = r.tasks; ended = r.ended; may_choose = r.may_choose; late = r.late }
+
 -- All tasks, counted from n.
 abbrev pub ended_by : ℕ → Option ℕ → Option Ended → Option Ended
 ended_by n None rest = rest
 ended_by n (Some r) rest = Some (record { task = n; response = r })
 
-abbrev pub serve_all : ℕ → Bool → ℕ → List TaskView → List TaskState → Round
-serve_all pick stay n [] ss = record { tasks = ss; ended = None; may_choose = false; late = 0 }
-serve_all pick stay n (t ∷ ts) [] = record { tasks = []; ended = None; may_choose = false; late = 0 }
+abbrev pub serve_all : ℕ → Bool → ℕ → List TaskView → List TaskState → RoundView
+serve_all pick stay n [] ss = record { tasks = ss; ended = None; may_choose = false; late = None }
+serve_all pick stay n (t ∷ ts) [] = record { tasks = []; ended = None; may_choose = false; late = None }
 serve_all pick stay n (t ∷ ts) (s ∷ ss) =
     let one = serve (n == pick) stay t s in
     let rest = serve_all pick stay (n + 1) ts ss in
@@ -66,10 +76,5 @@ serve_all pick stay n (t ∷ ts) (s ∷ ss) =
       tasks = one.state ∷ rest.tasks;
       ended = ended_by n one.response rest.ended;
       may_choose = cond one.may_choose true rest.may_choose;
-      late = cond one.late n rest.late;
+      late = cond one.late (Some n) rest.late;
     }
-
--- The first of two jobs that ended.
-abbrev pub either : Option Ended → Option Ended → Option Ended
-either None o = o
-either (Some e) o = Some e

@@ -1,7 +1,7 @@
 // What one slot of a run shows.
 use outcome::Ended;
 
-// For each task whether an arrival falls in the slot, the task picked (0 for none), and the job that ended.
+// For each task whether an arrival falls in the slot, the task picked (0 for none, as in the rules), and the job that ended.
 #[derive(Clone, Copy)]
 pub struct Event {
     pub arrivals: [bool; 8],

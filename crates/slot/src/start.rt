@@ -15,8 +15,8 @@ pub fn start<S: Stream>(plan: &Plan<S>) -> State
         position: 0,
         job: None,
     }; 8];
-    for i in 0..8 {
-        let Some(task) = &plan.tasks[i] else {
+    for (i, place) in plan.tasks.as_slice().iter().enumerate() {
+        let Some(task) = place else {
             break;
         };
         tasks[i] = TaskState {

@@ -1,14 +1,15 @@
 // One slot.
-ghost use Rattle.std.specs.Prelude.{◌≡◌, ◌*◌, ◌≤◌, true, length};
+ghost use Rattle.std.specs.Prelude.{◌≡◌, ◌*◌, ◌≤◌};
 ghost use Rattle.plans.specs.Tasks.{task_views};
 ghost use Rattle.slot.specs.Arrivals.{choices};
-ghost use Rattle.slot.specs.Bounded.{bounded};
-ghost use Rattle.slot.specs.Slot.{slot, settled, state_view, outcome_view, ended_in, event};
+ghost use Rattle.slot.specs.Work.{round_view};
+ghost use Rattle.slot.specs.Slot.{slot, settled, state_view, outcome_view, event};
 
 use crate::arrive::{arrive, stream_ways};
 use crate::event::Event;
+use crate::round::Round;
 use crate::state::State;
-use crate::work::{Round, pick_of, serve_all};
+use crate::work::{pick_of, serve_all};
 use dispatch::Dispatch;
 use outcome::{Cause, Ended, Outcome};
 use plans::plan::Plan;
@@ -24,6 +25,7 @@ pub fn ways<S: Stream>(plan: &Plan<S>, state: &State) -> u32
 }
 
 // One slot from a state, by the way of this number.
+// Plan and rule go in apart: `Schedule` joins them above, where tables are, and no layer knows those above it.
 pub fn walk<S: Stream, D: Dispatch>(
     plan: &Plan<S>,
     rule: &D,
@@ -38,33 +40,31 @@ pub fn walk<S: Stream, D: Dispatch>(
     }
     let stay = way / all == 1;
     let came = arrive(plan, state, way % all);
-    if came.overlap != 0 {
+    if let Some(task) = came.overlap {
         return if stay {
             Outcome::Void
         } else {
             Outcome::Late {
-                task: came.overlap,
+                task,
                 cause: Cause::Overlap,
                 ended: None,
             }
         };
     }
-    let pick = pick_of(plan, rule, &came.tasks, state.last);
-    let round = serve_all(plan, &came.tasks, pick, stay);
-    settle(round, pick, stay)
+    let pick = pick_of(plan, rule, &came.state);
+    settle(serve_all(plan, &came.state, pick, stay), pick, stay)
 }
 
 // What the slot comes to, once the tasks have been served.
 fn settle(round: Round, pick: u8, stay: bool) -> Outcome<State>
-    requires { (length round.tasks ≡ 8) × ((round.late ≡ 0 → bounded round.tasks ≡ true)) }
-    ensures { outcome_view result ≡ settled stay pick round }
+    ensures { outcome_view result ≡ settled stay pick (round_view round) }
 {
     if stay && !round.may_choose {
         return Outcome::Void;
     }
-    if round.late != 0 {
+    if let Some(task) = round.late {
         return Outcome::Late {
-            task: round.late,
+            task,
             cause: Cause::Deadline,
             ended: round.ended,
         };
@@ -79,30 +79,20 @@ fn settle(round: Round, pick: u8, stay: bool) -> Outcome<State>
     }
 }
 
-// The job that ended in a slot of this outcome.
-fn ended(outcome: Outcome<State>) -> Option<Ended>
-    ensures { result ≡ ended_in (outcome_view outcome) }
-{
-    match outcome {
-        Outcome::Void => None,
-        Outcome::Late { ended, .. } => ended,
-        Outcome::Next { ended, .. } => ended,
-    }
-}
-
 // What the slot of a way shows.
+#[tactic(auto, using(outcome::specs::Outcomes::ended_seen), unfolding(crate::specs::Slot::event))]
 pub fn observe<S: Stream, D: Dispatch>(plan: &Plan<S>, rule: &D, state: &State, way: u32) -> Event
     ensures { result ≡ event (task_views S.Stream.meaning plan.now.tasks) (D.Dispatch.picks rule.now) (state_view state.now) way }
 {
     let came = arrive(plan, state, way % stream_ways(plan, state));
-    let picked = if came.overlap != 0 {
-        0
-    } else {
-        pick_of(plan, rule, &came.tasks, state.last)
+    let arrivals = came.arrivals;
+    let picked = match came.overlap {
+        Some(_task) => 0,
+        None => pick_of(plan, rule, &came.state),
     };
     Event {
-        arrivals: came.arrivals,
+        arrivals,
         picked,
-        ended: ended(walk(plan, rule, state, way)),
+        ended: walk(plan, rule, state, way).ended(),
     }
 }

@@ -1,5 +1,5 @@
 -- What the reading of a window says of the plan's runs. Assumes nothing.
-use Rattle.std.proofs.Common.{◌≡◌, ℕ, Bool, true, false, cond, List, Some, None, Ok, Err, Option, Result, sym, refl, ap, ◌∙◌, subst, inl, inr, arith}
+use Rattle.std.proofs.Common.{◌≡◌, ℕ, Bool, true, false, cond, List, Some, None, Ok, Err, Option, Result, sym, refl, ◌∙◌, subst, inl, inr, arith}
 use Rattle.refusals.specs.declared.Fault.{Fault}
 use Rattle.dispatch.specs.Picks.{Picks}
 use Rattle.plans.specs.Tasks.{TaskView}
@@ -8,13 +8,11 @@ use Rattle.slot.specs.Slot.{StateView, state_view}
 use Rattle.runs.specs.Response.{ResponseLaw}
 use Rattle.exploration.specs.declared.Row.{Row}
 use Rattle.exploration.specs.declared.Shown.{Shown}
-use Rattle.exploration.specs.declared.Times.{Times}
 use Rattle.exploration.specs.declared.Stage.{Stage}
 use Rattle.exploration.specs.declared.Stage.TheVariants.{Walking, Complete, Late}
 use Rattle.exploration.specs.Table.{Table}
 use Rattle.exploration.specs.Truth.{AtLeast, AtMost}
 use Rattle.table.specs.declared.numbers.Numbers.{Numbers}
-use Rattle.table.specs.Readings.{times_read}
 use Rattle.table.specs.View.{table_of}
 use Rattle.schedule.specs.PlanSystem.{plan_system}
 use Rattle.evidence.specs.Opening.{ReadsKept}
@@ -52,15 +50,6 @@ module _ (ts : List TaskView) (picks : Picks) (t : Table) (rows : List (Row Stat
       let q : window_at t.stage (t.times k) ≡ o = cc in
       subst (Says ts picks t.stage k) q (stage_says t.stage refl)
   answer_says false f o e = let z : ◌≡◌ {A = ℕ} 0 1 = cc in absurd (omega arith)
-
--- the answer is the defined value, for a task that is refused and for one that is not
-pub refused_value : (p : Numbers) (k : ℕ) (r : Result (Option Window) Fault) (f : Fault) → ((g : Fault) × (r ≡ Err g) × (g ≡ f)) →
-    Err f ≡ times_read p k → r ≡ window_read p k
-refused_value p k r f q e = q.1 ∙ ap (λ (x : Fault). Err x) q.2 ∙ ap (window_in p.stage) e
-
-pub told_value : (p q : Numbers) (k : ℕ) (times : Times) (o : Option Window) → o ≡ window_at q.stage times → q ≡ p →
-    Ok times ≡ times_read p k → Ok o ≡ window_read p k
-told_value p q k times o v n e = ap Ok (v ∙ ap (λ (x : Numbers). window_at x.stage times) n) ∙ ap (window_in p.stage) e
 
 module _ (ts : List TaskView) (picks : Picks) (p : Numbers) (rows : List (Row State)) where
   pub windows_kept : ResponseLaw ts picks → ReadsKept state_view (plan_system ts picks) p rows → WindowsKept ts picks p rows

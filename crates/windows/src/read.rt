@@ -18,13 +18,11 @@ use table::table::Table;
 fn both(times: Times) -> Option<Window>
     ensures { result ≡ both_times times.least times.greatest }
 {
-    match (times.least, times.greatest) {
-        (Some(least), Some(greatest)) => Some(Window {
-            least: least.response,
-            greatest: greatest.response,
-        }),
-        _ => None,
-    }
+    let both = times.least.zip(times.greatest);
+    both.map(|(least, greatest)| Window {
+        least: least.response,
+        greatest: greatest.response,
+    })
 }
 
 // Only a complete table tells a window.
@@ -50,6 +48,6 @@ pub fn window<S: Stream, D: Dispatch>(
     ensures law { WindowsKept (task_views S.Stream.meaning schedule.now.plan.tasks) (D.Dispatch.picks schedule.now.rule) table.now.numbers rows.now }
     ensures runs { SameRuns (task_views S.Stream.meaning schedule.now.plan.tasks) (D.Dispatch.picks schedule.now.rule) }
 {
-    let times = read::times(table, schedule, rows, task)?;
-    Ok(window_at(table.numbers().stage, times))
+    let stage = table.numbers().stage;
+    read::times(table, schedule, rows, task).map(|times| window_at(stage, times))
 }

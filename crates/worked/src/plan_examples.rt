@@ -1,7 +1,7 @@
 // Plan records: what is accepted, and each refusal with its places.
 use plans::plan::Plan;
 use plans::record::Kind;
-use refusals::Fault;
+use refusals::Refusal;
 use std::test::Fail;
 use streams::either::Either;
 use streams::periodic::Periodic;
@@ -21,25 +21,18 @@ const TWO: [u8; 48] = [
 // The number and the places that a record is refused with, or none, in a plan of no task.
 fn refused(record: &[u8]) -> Option<(u8, u32, u32)> {
     let mut plan: Plan<Kind> = Plan::new();
-    match plan.add_record(record) {
-        Ok(()) => None,
-        Err(
-            Fault {
-                refusal,
-                at: (number, offset),
-            },
-        ) => Some((refusal.number(), number, offset)),
-    }
+    plan.add_record(record)
+        .err()
+        .map(|fault| (fault.refusal.number(), fault.at.0, fault.at.1))
 }
 
-// The sound record with other bytes at two offsets.
-fn with(at: usize, byte: u8, and_at: usize, and_byte: u8) -> [u8; 24] {
+// The sound record with other bytes at some offsets.
+fn with(changes: &[(usize, u8)]) -> [u8; 24] {
     let mut record = SOUND;
-    if at < 24 {
-        record[at] = byte;
-    }
-    if and_at < 24 {
-        record[and_at] = and_byte;
+    for (at, byte) in changes {
+        if let Some(place) = record.get_mut(*at) {
+            *place = *byte;
+        }
     }
     record
 }
@@ -49,18 +42,18 @@ fn lengths_and_letters(rt: HostRuntime) {
     assert_eq!(rt; refused(&SOUND), None);
     assert_eq!(rt; refused(&SOUND[0..23]), Some((1, 1, 0)));
     assert_eq!(rt; refused(&[]), Some((1, 1, 0)));
-    assert_eq!(rt; refused(&with(0, b'S', 0, b'S')), Some((4, 1, 12)));
-    assert_eq!(rt; refused(&with(0, b'p', 0, b'p')), Some((2, 1, 0)));
-    assert_eq!(rt; refused(&with(0, b'V', 1, 0)), Some((2, 1, 0)));
+    assert_eq!(rt; refused(&with(&[(0, b'S')])), Some((4, 1, 12)));
+    assert_eq!(rt; refused(&with(&[(0, b'p')])), Some((2, 1, 0)));
+    assert_eq!(rt; refused(&with(&[(0, b'V'), (1, 0)])), Some((2, 1, 0)));
 }
 
 #[test]
 fn task_numbers(rt: HostRuntime) {
-    assert_eq!(rt; refused(&with(1, 0, 2, 0)), Some((3, 1, 1)));
-    assert_eq!(rt; refused(&with(2, 0, 4, 0)), Some((3, 1, 2)));
-    assert_eq!(rt; refused(&with(4, 0, 6, 0)), Some((3, 1, 4)));
+    assert_eq!(rt; refused(&with(&[(1, 0), (2, 0)])), Some((3, 1, 1)));
+    assert_eq!(rt; refused(&with(&[(2, 0), (4, 0)])), Some((3, 1, 2)));
+    assert_eq!(rt; refused(&with(&[(4, 0), (6, 0)])), Some((3, 1, 4)));
     // worst 1,001 = 3 * 256 + 233, deadline 1,023
-    let mut record = with(4, 233, 5, 3);
+    let mut record = with(&[(4, 233), (5, 3)]);
     record[6] = 255;
     record[7] = 3;
     assert_eq!(rt; refused(&record), Some((3, 1, 4)));
@@ -69,18 +62,18 @@ fn task_numbers(rt: HostRuntime) {
     record[6] = 0;
     record[7] = 4;
     assert_eq!(rt; refused(&record), Some((3, 1, 6)));
-    assert_eq!(rt; refused(&with(6, 1, 8, 255)), Some((3, 1, 6)));
+    assert_eq!(rt; refused(&with(&[(6, 1), (8, 255)])), Some((3, 1, 6)));
 }
 
 #[test]
 fn stream_numbers(rt: HostRuntime) {
     // offset 4,000 = 15 * 256 + 160
-    assert_eq!(rt; refused(&with(8, 160, 9, 15)), None);
-    assert_eq!(rt; refused(&with(8, 161, 9, 15)), Some((4, 1, 8)));
-    assert_eq!(rt; refused(&with(10, 0, 10, 0)), Some((4, 1, 10)));
-    assert_eq!(rt; refused(&with(10, 161, 11, 15)), Some((4, 1, 10)));
-    assert_eq!(rt; refused(&with(12, 4, 14, 1)), Some((4, 1, 12)));
-    let mut sporadic = with(0, b'S', 12, 4);
+    assert_eq!(rt; refused(&with(&[(8, 160), (9, 15)])), None);
+    assert_eq!(rt; refused(&with(&[(8, 161), (9, 15)])), Some((4, 1, 8)));
+    assert_eq!(rt; refused(&with(&[(10, 0)])), Some((4, 1, 10)));
+    assert_eq!(rt; refused(&with(&[(10, 161), (11, 15)])), Some((4, 1, 10)));
+    assert_eq!(rt; refused(&with(&[(12, 4), (14, 1)])), Some((4, 1, 12)));
+    let mut sporadic = with(&[(0, b'S'), (12, 4)]);
     assert_eq!(rt; refused(&sporadic), None);
     sporadic[10] = 0;
     assert_eq!(rt; refused(&sporadic), Some((4, 1, 10)));
@@ -88,9 +81,9 @@ fn stream_numbers(rt: HostRuntime) {
 
 #[test]
 fn zero_bytes(rt: HostRuntime) {
-    assert_eq!(rt; refused(&with(14, 1, 23, 1)), Some((5, 1, 14)));
-    assert_eq!(rt; refused(&with(23, 1, 20, 9)), Some((5, 1, 20)));
-    assert_eq!(rt; refused(&with(23, 255, 23, 255)), Some((5, 1, 23)));
+    assert_eq!(rt; refused(&with(&[(14, 1), (23, 1)])), Some((5, 1, 14)));
+    assert_eq!(rt; refused(&with(&[(23, 1), (20, 9)])), Some((5, 1, 20)));
+    assert_eq!(rt; refused(&with(&[(23, 255)])), Some((5, 1, 23)));
 }
 
 // A plan of eight tasks refuses a ninth, whose own faults come first; a refusal leaves the plan as it was.
@@ -105,7 +98,7 @@ fn nine_tasks(rt: HostRuntime) -> Result<(), Fail> {
         return Err(Fail::new("a ninth task"));
     };
     assert_eq!(rt; (full.refusal.number(), full.at), (6, (9, 0)));
-    let Err(bad) = plan.add_record(&with(2, 0, 2, 0)) else {
+    let Err(bad) = plan.add_record(&with(&[(2, 0)])) else {
         return Err(Fail::new("a ninth task with a fault"));
     };
     assert_eq!(rt; (bad.refusal.number(), bad.at), (3, (9, 2)));
@@ -128,17 +121,11 @@ fn by_numbers(rt: HostRuntime) -> Result<(), Fail> {
     let other: Either<Sporadic, Either<Periodic, Sporadic>> = Either::Right(Either::Right(meter));
     assert_eq!(rt;
         plan.add_task(other, 0, 1, 1, 1),
-        Err(Fault {
-            refusal: refusals::Refusal::TaskBounds,
-            at: (3, 1),
-        })
+        Err(Refusal::TaskBounds.at(3, 1))
     );
     assert_eq!(rt;
         plan.add_task(other, 1, 1, 1, 1024),
-        Err(Fault {
-            refusal: refusals::Refusal::TaskBounds,
-            at: (3, 6),
-        })
+        Err(Refusal::TaskBounds.at(3, 6))
     );
     assert_eq!(rt; plan.count(), 2);
     Ok(())

@@ -6,7 +6,6 @@ use plans::plan::Plan;
 use plans::record::Kind;
 use refusals::Fault;
 use schedule::Schedule;
-use slot::start;
 use slot::state::State;
 use table::system::System;
 use table::table::Table;
@@ -23,14 +22,6 @@ pub(crate) fn sample() -> Result<Schedule<Kind, Priority>, Fault> {
         plan,
         rule: Priority,
     })
-}
-
-pub(crate) fn blank(schedule: &Schedule<Kind, Priority>) -> Row<State> {
-    Row {
-        state: start::start(&schedule.plan),
-        origin: 0,
-        way: 0,
-    }
 }
 
 // Steps a table so often.

@@ -10,11 +10,10 @@ use streams::sporadic::Sporadic;
 fn shown<S: Stream>(stream: &S, ways: &[u8; 20]) -> [u8; 20] {
     let mut position = stream.first();
     let mut slots = [b'.'; 20];
-    for slot in 0..20 {
-        let way = if ways[slot] == b'1' { 1 } else { 0 };
-        let (arrival, next) = stream.answer(position, way);
+    for (slot, way) in slots.iter_mut().zip(ways) {
+        let (arrival, next) = stream.answer(position, u8::from(*way == b'1'));
         if arrival {
-            slots[slot] = b'A';
+            *slot = b'A';
         }
         position = next;
     }

@@ -1,50 +1,38 @@
 // Tables of the sample plan: stepped to the end, and refused.
-use crate::sample::{blank, sample, steps};
+use crate::sample::{sample, steps};
 use evidence::keep::{step, take};
 use evidence::open::open;
 use evidence::wire::encode;
 use exploration::{Claim, Record, Stage, Times};
 use refusals::Fault;
 use std::test::Fail;
+use table::system::start_row;
 
-// The responses shown for a task, 0 for none.
-fn shown(times: Result<Times, Fault>) -> (u16, u16) {
-    match times {
-        Ok(
-            Times {
-                least: Some(least),
-                greatest: Some(greatest),
-            },
-        ) => (least.response, greatest.response),
-        _ => (0, 0),
-    }
+// The responses shown for a task.
+fn shown(times: Times) -> Option<(u16, u16)> {
+    let (least, greatest) = times.least.zip(times.greatest)?;
+    Some((least.response, greatest.response))
 }
 
-// The number and the places of a refusal, 0 for none.
-fn refused(answer: Result<(), Fault>) -> (u8, u32, u32) {
-    match answer {
-        Ok(()) => (0, 0, 0),
-        Err(
-            Fault {
-                refusal,
-                at: (a, b),
-            },
-        ) => (refusal.number(), a, b),
-    }
+// The number and the places of a refusal.
+fn refused(answer: Result<(), Fault>) -> Option<(u8, u32, u32)> {
+    answer
+        .err()
+        .map(|fault| (fault.refusal.number(), fault.at.0, fault.at.1))
 }
 
 #[test]
 fn complete_after_twelve_ways(rt: HostRuntime) -> Result<(), Fail> {
     let schedule = sample()?;
-    let mut rows = [blank(&schedule); 6];
+    let mut rows = [start_row(&schedule); 6];
     let mut table = open(&schedule, &mut rows)?;
     steps(&mut table, &schedule, &mut rows, 11);
     assert_eq!(rt; table.numbers().stage, Stage::Walking);
     steps(&mut table, &schedule, &mut rows, 1);
     assert_eq!(rt; table.numbers().stage, Stage::Complete);
     assert_eq!(rt; (table.numbers().held, table.numbers().walked), (6, 12));
-    assert_eq!(rt; shown(table.times(1)), (1, 1));
-    assert_eq!(rt; shown(table.times(2)), (2, 4));
+    assert_eq!(rt; shown(table.times(1)?), Some((1, 1)));
+    assert_eq!(rt; shown(table.times(2)?), Some((2, 4)));
     Ok(())
 }
 
@@ -52,7 +40,7 @@ fn complete_after_twelve_ways(rt: HostRuntime) -> Result<(), Fail> {
 #[test]
 fn no_row_left_in_five(rt: HostRuntime) -> Result<(), Fail> {
     let schedule = sample()?;
-    let mut rows = [blank(&schedule); 5];
+    let mut rows = [start_row(&schedule); 5];
     let mut table = open(&schedule, &mut rows)?;
     steps(&mut table, &schedule, &mut rows, 6);
     let mut place = [7u8; 32];
@@ -68,7 +56,7 @@ fn no_row_left_in_five(rt: HostRuntime) -> Result<(), Fail> {
 #[test]
 fn refused_records(rt: HostRuntime) -> Result<(), Fail> {
     let schedule = sample()?;
-    let mut rows = [blank(&schedule); 6];
+    let mut rows = [start_row(&schedule); 6];
     let mut table = open(&schedule, &mut rows)?;
     let no_way = encode(Record::Grow { row: 1, way: 2 });
     let void = encode(Record::Grow { row: 1, way: 1 });
@@ -79,19 +67,19 @@ fn refused_records(rt: HostRuntime) -> Result<(), Fail> {
     });
     assert_eq!(rt;
         refused(take(&mut table, &schedule, &mut rows, &no_way)),
-        (13, 1, 2)
+        Some((13, 1, 2))
     );
     assert_eq!(rt;
         refused(take(&mut table, &schedule, &mut rows, &void)),
-        (14, 1, 1)
+        Some((14, 1, 1))
     );
     assert_eq!(rt;
         refused(take(&mut table, &schedule, &mut rows, &wrong)),
-        (18, 1, 0)
+        Some((18, 1, 0))
     );
     assert_eq!(rt;
         refused(take(&mut table, &schedule, &mut rows, &wrong[0..15])),
-        (9, 0, 0)
+        Some((9, 0, 0))
     );
     Ok(())
 }

@@ -1,7 +1,8 @@
 // The windows of the sample plan.
-use crate::sample::{blank, sample, steps};
+use crate::sample::{sample, steps};
 use evidence::open::open;
 use std::test::Fail;
+use table::system::start_row;
 use windows::read::window;
 use windows::window::Window;
 
@@ -9,7 +10,7 @@ use windows::window::Window;
 #[test]
 fn told_once_complete(rt: HostRuntime) -> Result<(), Fail> {
     let schedule = sample()?;
-    let mut rows = [blank(&schedule); 6];
+    let mut rows = [start_row(&schedule); 6];
     let mut table = open(&schedule, &mut rows)?;
     assert_eq!(rt; window(&table, &schedule, &rows, 1)?, None);
     steps(&mut table, &schedule, &mut rows, 12);

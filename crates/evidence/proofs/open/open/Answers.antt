@@ -1,7 +1,8 @@
-use Rattle.std.proofs.Common.{◌≡◌, true, false, eqb, length, sym, refl, ◌∙◌, eq-eqb, ne_eqb}
+use Rattle.std.proofs.Common.{◌≡◌, true, false, eqb, length, sym, refl, ap, ◌∙◌, eq-eqb, ne_eqb}
 use Rattle.plans.specs.Tasks.{task_views}
 use Rattle.slot.specs.Slot.{state_view}
 use Rattle.schedule.specs.PlanSystem.{plan_system}
+use Rattle.table.specs.Calls.{none}
 use Rattle.evidence.proofs.Law.{law_of_kept_tables}
 use Rattle.evidence.proofs.Opening.{opened_kept}
 use Rattle.evidence.proofs.open.open.Goals as goal
@@ -10,8 +11,8 @@ pub returns-then-count-eq0 : goal.returns-then-count-eq0
 returns-then-count-eq0 g c =
     let ts = task_views g.S.Stream.meaning c.args.schedule.now.plan.tasks in
     let rules = plan_system ts (g.D.Dispatch.picks c.args.schedule.now.rule) in
-    let none : eqb (length ts) 0 ≡ true = eq-eqb (length ts) 0 (sym c.count.ensures.value ∙ c.if-count-eq0.true) in
-    record { does = rw none refl; kept = refl; law = law_of_kept_tables rules }
+    let empty : eqb (length ts) 0 ≡ true = eq-eqb (length ts) 0 (sym c.count.ensures.value ∙ c.if-count-eq0.true) in
+    record { does = rw empty (ap none c.into.ensures); kept = refl; law = law_of_kept_tables rules }
 
 pub returns : goal.returns
 returns g c =

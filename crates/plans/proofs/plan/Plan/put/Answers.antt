@@ -1,4 +1,6 @@
-use Rattle.std.proofs.Common.{◌≡◌, ◌+◌, length, refl, ap, arith, length-set, le-ltb, lt-ltb}
+use Rattle.std.proofs.Common.{◌≡◌, ◌+◌, length, Err, refl, ap, ◌∙◌, arith, length-set, le-ltb, lt-ltb}
+use Rattle.refusals.specs.declared.Refusal.TheVariants.{PlanFull}
+use Rattle.plans.specs.Adding.{fault_at}
 use Rattle.plans.specs.Tasks.{task_views}
 use Rattle.plans.proofs.Places.{put}
 use Rattle.plans.proofs.plan.Plan.put.Goals as goal
@@ -23,5 +25,5 @@ pub returns-then-n-ge8 : goal.returns-then-n-ge8
 returns-then-n-ge8 g c =
     let m = g.S.Stream.meaning in
     let full = le-ltb (length (task_views m c.args.self.now.tasks)) 8 (omega (arith, c.count-n.ensures.value)) in
-    let n : c.count-n.result + 1 ≡ length (task_views m c.args.self.now.tasks) + 1 = ap (λ x. x + 1) c.count-n.ensures.value in
-    record { added = rw (full, n) refl; same = refl }
+    let n = ap (λ x. fault_at PlanFull (x + 1) 0) c.count-n.ensures.value in
+    record { added = rw full (ap Err (c.at.ensures ∙ n)); same = refl }
