@@ -29,7 +29,7 @@ impl<K: Keyed> Dispatch for K {
     }
 }
 
-// The first job under the order by the rule's key, or 0.
+// The first job under the order by the rule's key, or 0. The best so far is the answer so far, so it is 0 for none, too.
 fn first_job<K: Keyed>(rule: &K, tasks: &[Seen]) -> usize
     ensures value { result ≡ greatest (K.Keyed.key rule.now) tasks.now 0 }
     ensures first { FirstJob (Before (key_of (K.Keyed.key rule.now) tasks.now)) tasks.now result }

@@ -10,7 +10,7 @@ pub mod priority;
 pub mod waiting;
 
 // What a rule sees of a task: its priority, and the age of its job if it has one.
-#[derive(Clone, Copy)]
+#[derive(Clone, Copy, Default)]
 pub struct Seen {
     pub priority: u8,
     pub age: Option<u16>,

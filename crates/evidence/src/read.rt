@@ -33,6 +33,7 @@ pub fn times<S: System>(
 }
 
 // The row and the way that a row came from.
+// The start's origin is row 0 and way 0, as docs/RULES.md has it: no Option.
 pub fn origin<S: System>(
     table: &Table,
     system: &S,

@@ -14,7 +14,7 @@ const SPACE: u8 = b' ';
 
 const END: u8 = b'\n';
 
-// The stage in a word. No Display: the box's code does without core::fmt.
+// The stage in a word. No Display: nothing else in the exported call goes through core::fmt.
 fn name(stage: Stage) -> &'static [u8]
     ensures value { result.now ≡ stage_field stage }
     ensures short { length result.now ≤ 8 }

@@ -79,7 +79,7 @@ pub fn listing(plan: &[u8], evidence: &[u8], place: &mut [u8]) -> Result<usize, 
     Ok(page.len())
 }
 
-// The lines of a table, into the first bytes of the place; answers their length.
+// The lines of a table, into the first bytes of the place; answers their length. A length, and no slice: C gets numbers back.
 pub fn lines(table: &Table, place: &mut [u8]) -> Result<usize, Fault>
     ensures value { Writes (table_lines (table_of table.now.numbers)) result place.old place.new }
     ensures short { IfOk result (λ n. n ≤ 176) }

@@ -48,7 +48,7 @@ impl<'a> Page<'a> {
         self.put(&[end]);
     }
 
-    // Writes the digits of a number. With itoa the exported call takes 64 bytes more of stack, and 2,317 of code.
+    // Writes the digits of a number. With itoa the exported call took 64 bytes more of stack, and 2,347 of code.
     fn put_digits(&mut self, n: u64)
         requires { length (decimal n) ≤ room self.old }
         ensures { Put (decimal n) self.old self.new }

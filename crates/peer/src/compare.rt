@@ -6,7 +6,7 @@ use crate::scheduler::Peer;
 use crate::shown::{Done, Lates, PeerOutcome, Shown};
 use dispatch::Dispatch;
 use outcome::{Cause, Outcome};
-use plans::plan::Plan;
+use schedule::Schedule;
 use slot::event::Event;
 use slot::state::State;
 use slot::{start, walk};
@@ -69,15 +69,14 @@ impl Trial {
     pub(crate) fn compare<D: Dispatch>(
         &mut self,
         rt: &impl Abort,
-        plan: &Plan<Streams>,
-        rule: &D,
+        schedule: &Schedule<Streams, D>,
         pair: &Pair,
         way: u32,
     ) -> Result<Option<Pair>, Fail> {
         let stay = way >= pair.peer.ways() / 2;
-        let event = walk::observe(plan, rule, &pair.state, way);
+        let event = walk::observe(&schedule.plan, &schedule.rule, &pair.state, way);
         let other = pair.peer.slot(self.heap, way)?;
-        match walk::walk(plan, rule, &pair.state, way) {
+        match walk::walk(&schedule.plan, &schedule.rule, &pair.state, way) {
             Outcome::Void => self.void(other),
             Outcome::Late { task, cause, ended } => {
                 assert_eq!(rt; ended, event.ended, "ended");
@@ -147,20 +146,19 @@ impl Trial {
     fn step<D: Dispatch>(
         &mut self,
         rt: &impl Abort,
-        plan: &Plan<Streams>,
-        rule: &D,
+        schedule: &Schedule<Streams, D>,
         pair: &Pair,
-        next: &mut Option<Pair>,
-    ) -> Result<(), Fail> {
-        let ways = walk::ways(plan, &pair.state);
+    ) -> Result<Option<Pair>, Fail> {
+        let ways = walk::ways(&schedule.plan, &pair.state);
         assert_eq!(rt; ways, pair.peer.ways(), "count of ways");
+        let mut next = None;
         for i in 0..8 {
             let way = self.way(i, ways);
-            if let Some(after) = self.compare(rt, plan, rule, pair, way)? {
-                *next = Some(after);
+            if let Some(after) = self.compare(rt, schedule, pair, way)? {
+                next = Some(after);
             }
         }
-        Ok(())
+        Ok(next)
     }
 
     // The way of each try: by turns one whose job ends where it may, and any. The last is 0 as often as `quiet` asks.
@@ -178,19 +176,16 @@ impl Trial {
     fn run<D: Dispatch>(
         &mut self,
         rt: &impl Abort,
-        plan: &Plan<Streams>,
-        rule: &D,
+        schedule: &Schedule<Streams, D>,
         peer: Peer,
         slots: u32,
     ) -> Result<(), Fail> {
         let mut pair = Pair {
-            state: start::start(plan),
+            state: start::start(&schedule.plan),
             peer,
         };
         for _ in 0..slots {
-            let mut next = None;
-            self.step(rt, plan, rule, &pair, &mut next)?;
-            let Some(after) = next else {
+            let Some(after) = self.step(rt, schedule, &pair)? else {
                 return Ok(());
             };
             pair = after;
@@ -205,17 +200,20 @@ impl Trial {
         tasks: &[Numbers],
         slots: u32,
     ) -> Result<(), Fail> {
-        let plan = plan_of(tasks)?;
         let heap = self.heap;
         for rule in RULES.iter() {
+            let schedule = Schedule {
+                plan: plan_of(tasks)?,
+                rule: *rule,
+            };
             let peer = Peer::new(heap, *rule, tasks)?;
-            self.run(rt, &plan, rule, peer, slots)?;
+            self.run(rt, &schedule, peer, slots)?;
         }
         Ok(())
     }
 }
 
-// What a slot shows is the same in both.
+// What a slot shows is the same in both. The library gives 'no task' the number 0, as the rules have it.
 fn same_event(rt: &impl Abort, event: &Event, shown: &Shown) {
     assert_eq!(rt; event.picked, shown.picked.unwrap_or(0), "picked");
     assert_eq!(rt; event.ended.map(Done::from), shown.ended, "ended");
@@ -224,7 +222,7 @@ fn same_event(rt: &impl Abort, event: &Event, shown: &Shown) {
     }
 }
 
-// The jobs and the last runner are the same in both.
+// The jobs and the last runner are the same in both. Here too 'no task' is 0 in the library.
 fn same_state(rt: &impl Abort, state: &State, peer: &Peer) {
     assert_eq!(rt; state.last, peer.runner().unwrap_or(0), "last runner");
     for (task, mine) in (1u8..).zip(state.tasks.iter()) {

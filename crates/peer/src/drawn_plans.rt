@@ -2,7 +2,6 @@
 use crate::compare::{Tally, Trial};
 use crate::falls::Kind;
 use crate::order::Numbers;
-use crate::shown::Lates;
 use std::process::Abort;
 use std::test::*;
 
@@ -39,13 +38,11 @@ fn show(rt: &HostRuntime, tally: Tally) -> Result<(), Fail> {
     let Tally {
         slots,
         void,
-        late: Lates { overlap, deadline },
+        late,
         ended,
         stayed,
     } = tally;
-    println!(rt;
-        "slots {slots}, void {void}, overlap {overlap}, deadline {deadline}, ended {ended}, stayed {stayed}"
-    )?;
+    println!(rt; "slots {slots}, void {void}, {late}, ended {ended}, stayed {stayed}")?;
     Ok(())
 }
 

@@ -152,13 +152,13 @@ impl Trial {
 fn show(rt: &HostRuntime, trial: &Trial) -> Result<(), Fail> {
     let Tally {
         complete,
-        late: Lates { overlap, deadline },
+        late,
         passed_over,
         states,
         ways,
     } = &trial.tally;
     println!(rt;
-        "complete {complete:?} with {states} states and {ways} ways, overlap {overlap}, deadline {deadline}, passed over {passed_over}"
+        "complete {complete:?} with {states} states and {ways} ways, {late}, passed over {passed_over}"
     )?;
     let Offers {
         taken,

@@ -1,13 +1,14 @@
 // Plans with a known run, in both schedulers.
 use crate::compare::{Pair, Trial};
 use crate::falls::Kind;
-use crate::library::plan_of;
+use crate::library::{Streams, plan_of};
 use crate::order::Numbers;
 use crate::scheduler::Peer;
 use crate::shown::{Done, PeerOutcome};
 use dispatch::priority::Priority;
 use outcome::Cause;
 use rules::Rule;
+use schedule::Schedule;
 use slot::start;
 use std::process::Abort;
 use std::test::*;
@@ -30,6 +31,13 @@ fn job(task: u8, response: u32) -> Option<Done> {
     Some(Done { task, response })
 }
 
+fn by_priority(tasks: &[Numbers]) -> Result<Schedule<Streams, Priority>, Fail> {
+    Ok(Schedule {
+        plan: plan_of(tasks)?,
+        rule: Priority,
+    })
+}
+
 // The start of both schedulers, by priority.
 fn begin(trial: &Trial, tasks: &[Numbers]) -> Result<Pair, Fail> {
     Ok(Pair {
@@ -45,13 +53,13 @@ fn walked(
     tasks: &[Numbers],
     slots: &[(u32, Option<Done>)],
 ) -> Result<Pair, Fail> {
-    let plan = plan_of(tasks)?;
+    let schedule = by_priority(tasks)?;
     let mut pair = begin(trial, tasks)?;
     for (way, done) in slots {
         if let PeerOutcome::Next { shown, .. } = pair.peer.slot(trial.heap, *way)? {
             assert_eq!(rt; shown.ended, *done);
         }
-        let Some(after) = trial.compare(rt, &plan, &Priority, &pair, *way)? else {
+        let Some(after) = trial.compare(rt, &schedule, &pair, *way)? else {
             return Err(Fail::new("does not go on"));
         };
         pair = after;
@@ -87,7 +95,7 @@ fn late_with_an_end(rt: HostRuntime) -> Result<(), Fail> {
     let pair = walked(&rt, &mut trial, &tasks, &[(0, None)])?;
     assert!(rt;
         trial
-            .compare(&rt, &plan_of(&tasks)?, &Priority, &pair, 0)?
+            .compare(&rt, &by_priority(&tasks)?, &pair, 0)?
             .is_none()
     );
     let PeerOutcome::Late { task, cause, shown } = pair.peer.slot(trial.heap, 0)? else {
@@ -106,7 +114,7 @@ fn late_by_an_overlap(rt: HostRuntime) -> Result<(), Fail> {
     let pair = walked(&rt, &mut trial, &tasks, &[(0, None)])?;
     assert!(rt;
         trial
-            .compare(&rt, &plan_of(&tasks)?, &Priority, &pair, 0)?
+            .compare(&rt, &by_priority(&tasks)?, &pair, 0)?
             .is_none()
     );
     let PeerOutcome::Late { task, cause, shown } = pair.peer.slot(trial.heap, 0)? else {

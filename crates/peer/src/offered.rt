@@ -19,9 +19,11 @@ pub struct Offers {
     pub draw: Draw,
     pub taken: u64,
     pub accepted: u32,
+    // By number, as the line that is printed shows them.
     pub refused: BTreeMap<u8, u32>,
 }
 
+// What a try needs is borrowed for it and goes in one by one: a struct of borrows would carry a lifetime for each, and say no more.
 impl Offers {
     // Evidence for a plan that is never late.
     pub(crate) fn all<D: Dispatch>(

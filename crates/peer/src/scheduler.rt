@@ -21,6 +21,7 @@ pub struct Task {
 pub struct Peer {
     rule: Rule,
     pub(crate) tasks: Vec<Task>,
+    // At most eight, in the order of arrival, so they are searched.
     jobs: Vec<Open>,
     pub(crate) slot: u32,
     ran: Option<Name>,

@@ -1,6 +1,7 @@
 // What a slot of the peer comes to, and what it shows.
 use crate::scheduler::Peer;
 use outcome::{Cause, Ended};
+use std::fmt;
 
 // How often something was late, by cause.
 #[derive(Clone, Copy, Default)]
@@ -19,7 +20,14 @@ impl Lates {
     }
 }
 
-// The job that ended: its task, and its response time in slots.
+impl fmt::Display for Lates {
+    fn fmt<W: fmt::Write>(&self, f: &mut fmt::Formatter<W>) -> fmt::Result {
+        let Lates { overlap, deadline } = *self;
+        write!(f, "overlap {overlap}, deadline {deadline}")
+    }
+}
+
+// The job that ended: its task, and its response time in slots. The peer counts slots in u32, apart from the library's types.
 #[derive(Clone, Copy, PartialEq, Eq, Debug)]
 pub struct Done {
     pub task: u8,

@@ -20,6 +20,7 @@ pub struct Side {
     pub reached: Reached,
 }
 
+// The handle and the table go in one by one: a struct of borrows would carry a lifetime for each, and say no more.
 impl Side {
     // None if more states are reached than the limit.
     pub(crate) fn new(
@@ -48,10 +49,8 @@ impl Side {
         assert_eq!(rt; numbers.walked, self.reached.ways, "ways");
         for task in 1..=self.tasks {
             let times = self.times(rt, kept, task)?;
-            match self.reached.span(task) {
-                Some(span) => assert_eq!(rt; times, (Some(span.least), Some(span.greatest))),
-                None => assert_eq!(rt; times, (None, None)),
-            }
+            let span = self.reached.span(task);
+            assert_eq!(rt; times, (span.map(|s| s.least), span.map(|s| s.greatest)));
         }
         Ok(())
     }
@@ -140,6 +139,7 @@ impl Side {
 fn spelled(rt: &impl Abort, heap: Global, kept: &Kept, row: u16) -> Result<Vec<u32>, Fail> {
     let mut ways = Vec::new(heap);
     let mut at = row;
+    // No clause says that origins lead downwards, so the number of rows bounds the loop.
     for _ in 0..kept.rows.len() {
         let (origin, way) = kept.table.origin(&kept.rows, u32::from(at))?;
         if origin == 0 {

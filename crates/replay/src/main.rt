@@ -34,12 +34,7 @@ fn rule_named(rt: &HostRuntime) -> anyhow::Result<Rule> {
 }
 
 fn show(rt: &HostRuntime, plan: &Plan<Kind>, rule: Rule, ways: &[u32]) -> anyhow::Result<()> {
-    let blank = Event {
-        arrivals: [false; 8],
-        picked: 0,
-        ended: None,
-    };
-    let mut trace = vec![in rt.alloc(); blank; ways.len()]?;
+    let mut trace = vec![in rt.alloc(); Event::default(); ways.len()]?;
     let replayed = replay(plan, &rule, ways, &mut trace);
     let events = trace.get(..replayed.slots).unwrap_or(&trace);
     for (slot, event) in events.iter().enumerate() {

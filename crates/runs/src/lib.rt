@@ -21,7 +21,7 @@ pub enum Stop {
     End { state: State },
 }
 
-// How many slots were walked, and why no more. The trace is lent, since the library has no heap, so its length stands beside it.
+// How many slots were walked, and why no more. A count, and no slice of the trace: the contract says of the whole trace what is written and what stays.
 #[derive(Clone, Copy)]
 pub struct Replayed {
     pub slots: usize,

@@ -11,10 +11,7 @@ use streams::Stream;
 pub fn start<S: Stream>(plan: &Plan<S>) -> State
     ensures { state_view result ≡ start_state (task_views S.Stream.meaning plan.now.tasks) }
 {
-    let mut tasks = [TaskState {
-        position: 0,
-        job: None,
-    }; 8];
+    let mut tasks = [TaskState::default(); 8];
     for (i, place) in plan.tasks.as_slice().iter().enumerate() {
         let Some(task) = place else {
             break;

@@ -10,7 +10,7 @@ pub struct Job {
 }
 
 // One task's part of a state: its stream's position, and its job if it has one.
-#[derive(Clone, Copy, PartialEq, Eq, Hash, Debug)]
+#[derive(Clone, Copy, PartialEq, Eq, Hash, Debug, Default)]
 pub struct TaskState {
     pub position: u16,
     pub job: Option<Job>,

@@ -52,10 +52,7 @@ fn serve<S: Stream>(task: &Task<S>, state: TaskState, picked: bool, stay: bool) 
 pub fn pick_of<S: Stream, D: Dispatch>(plan: &Plan<S>, rule: &D, state: &State) -> u8
     ensures { result ≡ D.Dispatch.picks rule.now (sees (task_views S.Stream.meaning plan.now.tasks) state.now.tasks) state.now.last }
 {
-    let mut seen = [Seen {
-        priority: 0,
-        age: None,
-    }; 8];
+    let mut seen = [Seen::default(); 8];
     for (i, place) in plan.tasks.as_slice().iter().enumerate() {
         let Some(task) = place else {
             break;

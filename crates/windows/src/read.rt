@@ -37,6 +37,7 @@ fn window_at(stage: Stage, times: Times) -> Option<Window>
 
 // The window of a task, numbered from 1: none unless the table is complete and shows times for it. A task that the table was not
 // opened with is refused.
+// Table, schedule and rows go in one by one, since rows are lent to each call.
 pub fn window<S: Stream, D: Dispatch>(
     table: &Table,
     schedule: &Schedule<S, D>,

@@ -1,4 +1,5 @@
 // Plan records: what is accepted, and each refusal with its places.
+use crate::sample;
 use plans::plan::Plan;
 use plans::record::Kind;
 use refusals::Refusal;
@@ -21,9 +22,7 @@ const TWO: [u8; 48] = [
 // The number and the places that a record is refused with, or none, in a plan of no task.
 fn refused(record: &[u8]) -> Option<(u8, u32, u32)> {
     let mut plan: Plan<Kind> = Plan::new();
-    plan.add_record(record)
-        .err()
-        .map(|fault| (fault.refusal.number(), fault.at.0, fault.at.1))
+    sample::refused(plan.add_record(record))
 }
 
 // The sound record with other bytes at some offsets.

@@ -1,5 +1,5 @@
 // The number of each refusal, and a fault as it is shown.
-use refusals::{Fault, Refusal};
+use refusals::Refusal;
 use std::test::Fail;
 
 #[test]
@@ -39,10 +39,7 @@ fn meanings(rt: HostRuntime) {
 
 #[test]
 fn faults(rt: HostRuntime) -> Result<(), Fail> {
-    let fault = Fault {
-        refusal: Refusal::NoRowLeft,
-        at: (12, 3),
-    };
+    let fault = Refusal::NoRowLeft.at(12, 3);
     let text = format!(in rt.alloc(); "{fault}")?;
     assert_eq!(rt;
         text.as_str(),

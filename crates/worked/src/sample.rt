@@ -24,6 +24,13 @@ pub(crate) fn sample() -> Result<Schedule<Kind, Priority>, Fault> {
     })
 }
 
+// The number and the places of a refusal.
+pub(crate) fn refused(answer: Result<(), Fault>) -> Option<(u8, u32, u32)> {
+    answer
+        .err()
+        .map(|fault| (fault.refusal.number(), fault.at.0, fault.at.1))
+}
+
 // Steps a table so often.
 pub(crate) fn steps(
     table: &mut Table,

@@ -1,10 +1,9 @@
 // Tables of the sample plan: stepped to the end, and refused.
-use crate::sample::{sample, steps};
+use crate::sample::{refused, sample, steps};
 use evidence::keep::{step, take};
 use evidence::open::open;
 use evidence::wire::encode;
 use exploration::{Claim, Record, Stage, Times};
-use refusals::Fault;
 use std::test::Fail;
 use table::system::start_row;
 
@@ -12,13 +11,6 @@ use table::system::start_row;
 fn shown(times: Times) -> Option<(u16, u16)> {
     let (least, greatest) = times.least.zip(times.greatest)?;
     Some((least.response, greatest.response))
-}
-
-// The number and the places of a refusal.
-fn refused(answer: Result<(), Fault>) -> Option<(u8, u32, u32)> {
-    answer
-        .err()
-        .map(|fault| (fault.refusal.number(), fault.at.0, fault.at.1))
 }
 
 #[test]
