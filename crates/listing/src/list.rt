@@ -68,6 +68,7 @@ fn check_place(place: &[u8]) -> Result<(), Fault>
 
 // The listing of a plan and of evidence, both as bytes, in 256 rows under the rule priority: adds all records, opens, takes all evidence,
 // and steps until the stage is not walking. Writes it into the first bytes of the place, and answers its length.
+// A length, and no slice: C gets numbers back.
 pub fn listing(plan: &[u8], evidence: &[u8], place: &mut [u8]) -> Result<usize, Fault>
     ensures value { Lists by_priority 256 plan.now evidence.now result place.old place.new }
     ensures short { IfOk result (λ n. n ≤ 212) }
@@ -79,7 +80,7 @@ pub fn listing(plan: &[u8], evidence: &[u8], place: &mut [u8]) -> Result<usize, 
     Ok(page.len())
 }
 
-// The lines of a table, into the first bytes of the place; answers their length. A length, and no slice: C gets numbers back.
+// The lines of a table, into the first bytes of the place; answers their length, as `listing` does.
 pub fn lines(table: &Table, place: &mut [u8]) -> Result<usize, Fault>
     ensures value { Writes (table_lines (table_of table.now.numbers)) result place.old place.new }
     ensures short { IfOk result (λ n. n ≤ 176) }
