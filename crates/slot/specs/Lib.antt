@@ -3,3 +3,4 @@ pub mod Arrivals
 pub mod Work
 pub mod Slot
 pub mod Same
+pub mod Equal

@@ -10,7 +10,7 @@ pub struct Job {
 }
 
 // One task's part of a state: its stream's position, and its job if it has one.
-#[derive(Clone, Copy, PartialEq, Eq, Hash, Debug, Default)]
+#[derive(Clone, Copy, Eq, Hash, Debug, Default)]
 pub struct TaskState {
     pub position: u16,
     pub job: Option<Job>,
@@ -30,7 +30,7 @@ impl State {
     ghost use Rattle.slot.specs.Slot.{state_view};
     ghost use Rattle.slot.specs.Same.{same_state};
 
-    // What `==` says: whether two states are one, by every position, every job and the last runner.
+    // What `==` says, with the clauses that a derive cannot have: whether two states are one, by every position, every job and the last runner.
     pub fn is(&self, other: &State) -> bool
         ensures value { result ≡ same_state (state_view self.now) (state_view other.now) }
         ensures exact { Decides result (state_view self.now ≡ state_view other.now) }
