@@ -8,14 +8,16 @@ use std::fs::File;
 use std::io;
 use std::io::{ErrorKind, Read};
 
+// At most so much room is made before a file is read. A program reads less, so its bytes fit, with one over to find the end by.
+const ROOM: usize = 65_536;
+
 // The first bytes of a file, as many as there are, and no more than the limit.
 pub fn front(rt: &HostRuntime, path: &str, limit: usize) -> io::Result<Vec<u8>>
     ensures { IfOk result (λ bytes. vec_len bytes ≤ limit) }
 {
-    let mut bytes = Vec::new(rt.alloc());
-    File::open(rt, path)?
-        .take(limit as u64)
-        .read_to_end(&mut bytes)?;
+    let file = File::open(rt, path)?;
+    let mut bytes = Vec::with_capacity(rt.alloc(), limit.saturating_add(1).min(ROOM))?;
+    file.take(limit as u64).read_to_end(&mut bytes)?;
     // No clause of `read_to_end` tells how much a file gives, so the limit is kept here.
     bytes.truncate(limit);
     Ok(bytes)
