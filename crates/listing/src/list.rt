@@ -85,7 +85,7 @@ pub fn lines(table: &Table, place: &mut [u8]) -> Result<usize, Fault>
     ensures value { Writes (table_lines (table_of table.now.numbers)) result place.old place.new }
     ensures short { IfOk result (λ n. n ≤ 176) }
 {
-    check_place(place)?;
+    check_place(place)?; // as for a listing
     let mut page = Page::new(place);
     page.put_table(table);
     Ok(page.len())
